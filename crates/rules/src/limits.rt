@@ -1,0 +1,6 @@
+//! The stated limits, each under one name; `specs/Limits.antt` has the same names for the contracts.
+
+/// The most lines of a sheet.
+pub const MAX_LINES: u32 = 4096;
+/// The most bytes of a sheet's lines together.
+pub const MAX_BYTES: usize = 60000;
