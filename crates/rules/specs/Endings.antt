@@ -27,6 +27,11 @@ by-second-last l = cond (leb 2 (length l)) (Some (cond (eqb (getD l (length l - 
 abbrev pub ends-in-newline : Line → Bool
 ends-in-newline l = eqb (getD l (length l - 1) 0) 10
 
+-- What one line shows: a line that ends in carriage return and newline gives both bytes, another of two bytes or more that ends in newline gives
+-- newline, and any other gives none.
+abbrev pub line-ending : Line → Option Ending
+line-ending l = cond (ends-in-newline l) (by-second-last l) None
+
 -- The ending shown at the end of a..b in a sheet, b above 0.
 abbrev pub ending-before : List Line → ℕ → Option Ending
 ending-before ls b =

@@ -1,0 +1,6 @@
+pub mod LineLaws
+pub mod TextLaws
+pub mod StartLaws
+pub mod AnswerLaws
+pub mod CellLaws
+pub mod CellsTold

@@ -1,0 +1,4 @@
+pub mod Cells
+pub mod Refusals
+pub mod Splits
+pub mod Starts
