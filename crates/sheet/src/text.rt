@@ -14,8 +14,8 @@ pub use crate::text::ops::SheetOfText;
 pub struct TextSheet<'a> {
     text: &'a [u8],
     starts: &'a [u32],
-    count: u32,
+    lines: u32,
     ghost formed: { Formed (text-lines (now text)) },
-    ghost placed: { take count (now starts) ≡ starts-of (now text) },
-    ghost counted: { count ≡ length (text-lines (now text)) },
+    ghost placed: { take lines (now starts) ≡ starts-of (now text) },
+    ghost counted: { lines ≡ length (text-lines (now text)) },
 }

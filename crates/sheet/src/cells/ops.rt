@@ -47,9 +47,9 @@ impl<'a> CellSheet<'a> {
         ensures refused { λ r. ⌜ (isOk r ≡ false → now (self .exit) ≡ now (self .entry)) ⌝ }
         ensures law { λ _. ⌜ Cell-law (now (memory .entry)) ⌝ }
     {
-        let count = checked(memory)?;
+        let lines = checked(memory)?;
         *self = CellSheet { memory };
-        Ok(count)
+        Ok(lines)
     }
 }
 

@@ -20,15 +20,15 @@ pub impl Sheet for TextSheet<'_> as SheetOfText {
     ghost sheet = { λ s. listed (text-lines (now (s .text))) (s .formed) };
 
     fn count(&self) -> u32 {
-        self.count
+        self.lines
     }
 
     fn line(&self, n: u32) -> Option<&[u8]> {
-        if n >= self.count {
+        if n >= self.count() {
             return None;
         }
         let from = self.starts[n as usize] as usize;
-        let to = if n + 1 < self.count {
+        let to = if n + 1 < self.count() {
             self.starts[n as usize + 1] as usize
         } else {
             self.text.len()
@@ -40,12 +40,12 @@ pub impl Sheet for TextSheet<'_> as SheetOfText {
 impl<'a> TextSheet<'a> {
     /// The sheet with no lines.
     pub fn empty() -> TextSheet<'a>
-        ensures { λ r. ⌜ (now (r .text) ≡ []) × (now (r .starts) ≡ []) × (r .count ≡ 0) ⌝ }
+        ensures { λ r. ⌜ (now (r .text) ≡ []) × (now (r .starts) ≡ []) × (r .lines ≡ 0) ⌝ }
     {
         TextSheet {
             text: &[],
             starts: &[],
-            count: 0,
+            lines: 0,
         }
     }
 
@@ -54,16 +54,16 @@ impl<'a> TextSheet<'a> {
     pub fn open(&mut self, text: &'a [u8], starts: &'a [u32]) -> Result<u32, SheetRefusal>
         ensures answer { λ r. ⌜ r ≡ text-answer (now (text .entry)) (now (starts .entry)) ⌝ }
         ensures shown { λ r. ⌜ text-lines (now (now (self .exit) .text)) ≡ lines-after r (text-lines (now (text .entry))) (text-lines (now (now (self .entry) .text))) ⌝ }
-        ensures opened { λ r. ⌜ (isOk r ≡ true → (now (self .exit) .text ≡ text .entry) × (now (self .exit) .starts ≡ starts .entry) × (r ≡ Ok (now (self .exit) .count))) ⌝ }
+        ensures opened { λ r. ⌜ (isOk r ≡ true → (now (self .exit) .text ≡ text .entry) × (now (self .exit) .starts ≡ starts .entry) × (r ≡ Ok (now (self .exit) .lines))) ⌝ }
         ensures refused { λ r. ⌜ (isOk r ≡ false → now (self .exit) ≡ now (self .entry)) ⌝ }
     {
-        let count = checked(text, starts)?;
+        let lines = checked(text, starts)?;
         *self = TextSheet {
             text,
             starts,
-            count,
+            lines,
         };
-        Ok(count)
+        Ok(lines)
     }
 }
 

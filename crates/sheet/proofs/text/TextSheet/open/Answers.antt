@@ -5,5 +5,5 @@ use Rattle.sheet.proofs.text.TextSheet.open.Needs as need
 
 pub ghost-self : need.ghost-self
 ghost-self c =
-    let f = text-fits (c .args .text .now) (c .args .starts .now) (c .in-Continue-count .count) (sym (c .in-Continue-count .ensures tt)) in
+    let f = text-fits (c .args .text .now) (c .args .starts .now) (c .in-Continue-lines .lines) (sym (c .in-Continue-lines .ensures tt)) in
     (formed-split (c .args .text .now) (f .small) (f .few), (f .placed, (f .counted, tt)))

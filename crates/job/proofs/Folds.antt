@@ -1,0 +1,44 @@
+-- Steps of the loops: what is left gives the answer.
+use Prim.Native.Nat.{ℕ, zero, suc, _+_, _≤_, _<_}
+use native.Mathlib.Omega.{arith}
+use mathlib.Core.Path.{_≡_, refl, sym, _∙_, ap, subst}
+use mathlib.Core.Bool.{Bool, true, false, cond}
+use mathlib.Core.List.{List, [], _∷_, _++_}
+use lib.Dec.{eqb}
+use lib.ListN.{length, take, drop, getD}
+use borrow.Author.Tests.{eq-eqb, ne-eqb, eqb-true}
+use Rattle.std.proofs.shelf.Lists.{at-drop-more, at-drop-all}
+use Rattle.std.specs.declared.option.Option.{Option}
+use Rattle.std.specs.declared.option.Option.the-variants.{Some, None}
+use Rattle.job.specs.Ends.{line-length}
+use Rattle.job.specs.Orders.{after}
+
+-- a newline ends the line; any other byte is one more of it
+pub newline-ends : (t : List ℕ) (i : ℕ) → i < length t → getD t i 0 ≡ 10 → line-length (drop i t) ≡ 1
+newline-ends t i h e =
+    at-drop-more line-length t i 0 h ∙ ap (λ v. cond v 1 (suc (line-length (drop (i + 1) t)))) (eq-eqb (getD t i 0) 10 e)
+
+pub line-goes-on : (t : List ℕ) (i : ℕ) → i < length t → (getD t i 0 ≡ 10 → ⊥) → line-length (drop i t) ≡ suc (line-length (drop (i + 1) t))
+line-goes-on t i h e =
+    at-drop-more line-length t i 0 h ∙ ap (λ v. cond v 1 (suc (line-length (drop (i + 1) t)))) (ne-eqb (getD t i 0) 10 e)
+
+pub no-line-left : (t : List ℕ) (i : ℕ) → length t ≤ i → line-length (drop i t) ≡ 0
+no-line-left t i h = at-drop-all line-length t i h
+
+-- what follows a word, by taking and dropping
+pub word-there : (w line : List ℕ) → take (length w) line ≡ w → after w line ≡ Some (drop (length w) line)
+word-there [] line e = refl
+word-there (w ∷ ws) [] e = absurd (let z : _≡_ {A = ℕ} 0 1 = cc in omega arith)
+word-there (w ∷ ws) (b ∷ bs) e =
+    let p : w ≡ b = cc in
+    let q : take (length ws) bs ≡ ws = cc in
+    ap (λ v. cond v (after ws bs) None) (eq-eqb w b p) ∙ word-there ws bs q
+
+pub word-absent : (w line : List ℕ) → (take (length w) line ≡ w → ⊥) → after w line ≡ None
+word-absent [] line e = absurd (e refl)
+word-absent (w ∷ ws) [] e = refl
+word-absent (w ∷ ws) (b ∷ bs) e = by (eqb w b) refl (word-absent ws bs)
+  where
+    by : (v : Bool) → eqb w b ≡ v → ((take (length ws) bs ≡ ws → ⊥) → after ws bs ≡ None) → cond v (after ws bs) None ≡ None
+    by true g ih = let p = eqb-true w b g in ih (λ q. e (ap (λ c. c ∷ take (length ws) bs) (sym p) ∙ ap (λ cs. w ∷ cs) q))
+    by false g ih = refl

@@ -1,0 +1,4 @@
+pub mod Ends
+pub mod Escapes
+pub mod Orders
+pub mod Sums
