@@ -8,12 +8,14 @@ use mathlib.Core.List.{List, [], _∷_, _++_, append-assoc, List·Memᴰ, List·
 use lib.Dec.{T}
 use lib.ListN.{length}
 use Rattle.std.proofs.shelf.Tests.{true≢false, cond-both}
+use Rattle.rules.specs.declared.hunk.Hunk.{Hunk}
 use Rattle.rules.specs.declared.hunk.Side.{Side}
 use Rattle.rules.specs.declared.hunk.Side.the-variants.{Current, Other}
-use Rattle.rules.specs.declared.hunk.Hunk.{Hunk}
-use Rattle.rules.specs.Hunks.{Sheets, touches, touches-any, walk}
+use Rattle.rules.specs.Hunks.{Sheets, touches, touches-any}
+use Rattle.rules.specs.Walk.{walk}
 use Rattle.rules.specs.Groups.{Cluster, clusters, clusters-from, members, joined}
-use Rattle.rules.specs.Agreement.{Kept, Chain, here, by, all-members, Groups-are-chains}
+use Rattle.rules.specs.Order.{Kept}
+use Rattle.rules.specs.GroupLaws.{Chain, here, by, all-members, Groups-are-chains}
 use Rattle.rules.proofs.Woven.{Sided, Woven, Behind, next, next-start, behind-next, behind-self, past, untouched, touches-sym, any-false, any-true, woven-above, runs, walk-woven}
 
 abbrev pub alone : Hunk → Cluster

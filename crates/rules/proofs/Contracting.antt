@@ -8,14 +8,16 @@ use lib.ListN.{length, take, drop}
 use Rattle.std.specs.shelf.Lists.{All}
 use Rattle.std.proofs.shelf.Tests.{true≢false, false≢true, or-parts, not-false, cases-bool}
 use Rattle.rules.specs.declared.hunk.Hunk.{Hunk}
-use Rattle.rules.specs.Lines.{Line, shared-front, same-lines}
-use Rattle.rules.specs.Hunks.{Sheets, side-lines, is-current}
-use Rattle.rules.specs.Groups.{Cluster, ours-of, theirs-of}
-use Rattle.rules.specs.Contraction.{Contracted, contracted, trimmed, shared-back, cut-front}
-use Rattle.rules.specs.Rendering.{Sides, contracted-by, contracted-sides, line-left, no-line}
-use Rattle.rules.specs.Outline.{shared-start, past-start, before-end, at-end, middle, shared-end, ours-lines, theirs-lines}
-use Rattle.rules.proofs.Shared.{front-sym, start-sym, end-sym, equal-middle, no-middle, same-lines-true, same-lines-refl}
+use Rattle.rules.specs.Lines.{Line, same-lines}
+use Rattle.rules.specs.SharedLines.{shared-front, shared-back, shared-start, past-start, before-end, at-end, middle, shared-end}
+use Rattle.rules.specs.Hunks.{Sheets, side-lines}
+use Rattle.rules.specs.Walk.{is-current}
+use Rattle.rules.specs.Groups.{Cluster}
+use Rattle.rules.specs.Filling.{ours-of, theirs-of, ours-lines, theirs-lines}
+use Rattle.rules.specs.Contraction.{Contracted, contracted, trimmed, cut-front}
+use Rattle.rules.specs.Sides.{Sides, contracted-by, contracted-sides, line-left, no-line}
 use Rattle.rules.proofs.Cuts.{Whole, front-splits, back-splits}
+use Rattle.rules.proofs.Shared.{front-sym, start-sym, end-sym, equal-middle, no-middle, same-lines-true, same-lines-refl}
 
 pub record Trimmed-lines (s : Sheets) (la lb : List Line) (c : Contracted) : Type 0 where
   pub lead : side-lines s (c .lead) ≡ before-end la lb

@@ -10,32 +10,39 @@ use lib.ListN.{length, drop, length-append, length-replicate}
 use Rattle.std.specs.shelf.Lists.{All}
 use Rattle.std.proofs.shelf.Elements.{kept-by-append}
 use Rattle.std.proofs.shelf.Tests.{true≢false, false≢true, cond-both}
-use Rattle.rules.specs.Pieces.{Kind, common, ours, base, theirs, ending, total}
-use Rattle.rules.specs.declared.hunk.Side.{Side}
-use Rattle.rules.specs.declared.hunk.Side.the-variants.{Current, Other, Ancestor}
-use Rattle.rules.specs.declared.hunk.Hunk.{Hunk}
-use Rattle.rules.specs.declared.mode.ConflictStyle.{ConflictStyle}
-use Rattle.rules.specs.declared.mode.ConflictStyle.the-variants.{Merge, Diff3, ZealousDiff3}
-use Rattle.rules.specs.declared.mode.Conflict as modes
-use Rattle.rules.specs.declared.mode.Conflict.the-variants.{Keep, ResolveWithOurs, ResolveWithTheirs, ResolveWithUnion}
-use Rattle.rules.specs.Lines.{Line, between}
-use Rattle.rules.specs.Hunks.{Sheets, hunk-lines, side-lines, walk, currents, others, is-current, is-other}
-use Rattle.rules.specs.Groups.{Cluster, clusters, members, from, to, stretch, filled, ours-of, theirs-of, is-group}
 use Rattle.rules.specs.declared.ending.Ending.{Ending}
 use Rattle.rules.specs.declared.ending.Ending.the-variants.{Newline, ReturnNewline}
+use Rattle.rules.specs.declared.hunk.Hunk.{Hunk}
+use Rattle.rules.specs.declared.hunk.Side.{Side}
+use Rattle.rules.specs.declared.hunk.Side.the-variants.{Current, Other, Ancestor}
+use Rattle.rules.specs.declared.mode.Conflict as modes
+use Rattle.rules.specs.declared.mode.Conflict.the-variants.{Keep, ResolveWithOurs, ResolveWithTheirs, ResolveWithUnion}
+use Rattle.rules.specs.declared.mode.ConflictStyle.{ConflictStyle}
+use Rattle.rules.specs.declared.mode.ConflictStyle.the-variants.{Merge, Diff3, ZealousDiff3}
+use Rattle.rules.specs.Lines.{Line, between}
+use Rattle.rules.specs.Hunks.{Sheets, hunk-lines, side-lines}
+use Rattle.rules.specs.Walk.{walk, currents, others, is-current, is-other}
+use Rattle.rules.specs.Groups.{Cluster, clusters, members, from, to, is-group}
+use Rattle.rules.specs.Filling.{stretch, filled, ours-of, theirs-of, ours-lines, theirs-lines}
+use Rattle.rules.specs.Sides.{Sides, whole-sides, contracted-sides, sides-in, line-left}
 use Rattle.rules.specs.Endings.{ending-of, or-newline, or-else}
-use Rattle.rules.specs.Rendering.{Labels, Step, put, close, each, marker-steps, Sides, whole-sides, contracted-sides, sides-in, blocked, line-left, before-block, base-lines, base-steps, block-steps, agreed-steps, keep-steps, marker-ending, back-close, union-steps, group-steps, cluster-steps, steps-from, open-after, pieces-of}
-use Rattle.rules.specs.Agreement.{In-order, Kept, all-members}
-use Rattle.rules.specs.Outline.{ours-lines, theirs-lines}
-use Rattle.rules.specs.Renders.{Size-fits, Label-fits}
+use Rattle.rules.specs.Pieces.{Kind, common, ours, base, theirs, ending, total}
+use Rattle.rules.specs.Steps.{Step, put, close, each, left-open, pieces-of}
+use Rattle.rules.specs.Markers.{Labels, marker-steps}
+use Rattle.rules.specs.Blocks.{blocked, before-block, base-lines, base-steps, block-steps, agreed-steps, keep-steps, marker-ending}
+use Rattle.rules.specs.Unions.{back-close, union-steps}
+use Rattle.rules.specs.Rendering.{group-steps, cluster-steps, steps-from}
+use Rattle.rules.specs.Order.{In-order, Kept}
+use Rattle.rules.specs.GroupLaws.{all-members}
+use Rattle.rules.specs.RenderLaws.{Size-fits, Label-fits}
 use Rattle.rules.specs.Lengths.{bytes-of, Labels-fit, Length-law}
-use Rattle.rules.proofs.Fits.{Fit, kept-fit}
-use Rattle.rules.proofs.Woven.{Sided, Woven, Run, runs, walk-woven}
 use Rattle.rules.proofs.Chains.{Cut, cut, parted}
+use Rattle.rules.proofs.Fits.{Fit, kept-fit}
 use Rattle.rules.proofs.Kept.{Low, currents-walk, others-walk}
 use Rattle.rules.proofs.Texts.{between-more, between-rest, side-lines-append, stretch-lines, Within, low-each, low-zero, last-end-above, last-end-below, after, woven-parts, cluster-within, only-current, only-other}
-use Rattle.rules.proofs.Walks.{walk-length}
 use Rattle.rules.proofs.Unions.{contraction-law}
+use Rattle.rules.proofs.Walks.{walk-length}
+use Rattle.rules.proofs.Woven.{Sided, Woven, Run, runs, walk-woven}
 
 -- lines
 bytes-append : (a b : List Line) → bytes-of (a ++ b) ≡ bytes-of a + bytes-of b
@@ -127,7 +134,7 @@ step-bytes (close e ∷ ss) = length e + step-bytes ss
 
 pieces-bytes : (o : Bool) (ss : List Step) → total (pieces-of o ss) ≤ step-bytes ss
 pieces-bytes o [] = omega arith
-pieces-bytes o (put c ∷ ss) = let e = pieces-bytes (open-after o (c .bytes)) ss in omega arith
+pieces-bytes o (put c ∷ ss) = let e = pieces-bytes (left-open o (c .bytes)) ss in omega arith
 pieces-bytes o (close e ∷ ss) =
     let p = pieces-bytes false ss in
     cond-both o (record { kind = ending; bytes = e } ∷ pieces-of false ss) (pieces-of false ss) (λ cs. total cs ≤ length e + step-bytes ss) (λ _. omega arith) (λ _. omega arith)

@@ -11,21 +11,28 @@ use lib.Dec.{eqb}
 use Rattle.std.specs.shelf.Lists.{All}
 use Rattle.std.proofs.shelf.Elements.{all-append}
 use Rattle.std.proofs.shelf.Tests.{true≢false, false≢true, cond-both, not-true, eqb-false}
-use Rattle.rules.specs.Pieces.{Kind, common, ours, base, theirs, marker, ending, Chunk, all-bytes}
-use Rattle.rules.specs.declared.hunk.Hunk.{Hunk}
-use Rattle.rules.specs.declared.mode.ConflictStyle.{ConflictStyle}
-use Rattle.rules.specs.declared.mode.ConflictStyle.the-variants.{Merge, Diff3, ZealousDiff3}
-use Rattle.rules.specs.declared.mode.Conflict as modes
-use Rattle.rules.specs.declared.mode.Conflict.the-variants.{Keep, ResolveWithOurs, ResolveWithTheirs, ResolveWithUnion}
-use Rattle.rules.specs.Lines.{Line, between}
-use Rattle.rules.specs.Hunks.{Sheets, hunk-lines, side-lines, walk}
-use Rattle.rules.specs.Groups.{Cluster, clusters, from, to, stretch, is-group, ours-of, theirs-of, sides-differ}
 use Rattle.rules.specs.declared.ending.Ending.{Ending}
 use Rattle.rules.specs.declared.ending.Ending.the-variants.{Newline, ReturnNewline}
+use Rattle.rules.specs.declared.hunk.Hunk.{Hunk}
+use Rattle.rules.specs.declared.mode.Conflict as modes
+use Rattle.rules.specs.declared.mode.Conflict.the-variants.{Keep, ResolveWithOurs, ResolveWithTheirs, ResolveWithUnion}
+use Rattle.rules.specs.declared.mode.ConflictStyle.{ConflictStyle}
+use Rattle.rules.specs.declared.mode.ConflictStyle.the-variants.{Merge, Diff3, ZealousDiff3}
+use Rattle.rules.specs.Lines.{Line, between}
+use Rattle.rules.specs.Hunks.{Sheets, hunk-lines, side-lines}
+use Rattle.rules.specs.Walk.{walk}
+use Rattle.rules.specs.Groups.{Cluster, clusters, from, to, is-group}
+use Rattle.rules.specs.Filling.{stretch, ours-of, theirs-of, sides-differ}
+use Rattle.rules.specs.Sides.{Sides, contracted-sides, sides-in, line-left, with-base}
 use Rattle.rules.specs.Endings.{ending-bytes, ending-of, or-newline, or-else}
-use Rattle.rules.specs.Rendering.{Labels, Step, put, close, each, marker-steps, Sides, contracted-sides, sides-in, blocked, line-left, before-block, base-lines, base-steps, block-steps, agreed-steps, keep-steps, marker-ending, back-close, union-steps, group-steps, cluster-steps, steps-from, open-after, pieces-of, rendering, with-base}
-use Rattle.rules.specs.Agreement.{Kept}
-use Rattle.rules.specs.Markers.{Mark, less, bar, equals, greater, mark-byte, mark-label, piece, label-pieces, closed, Place, out, in-ours, in-base, in-theirs, Moves, opens, bases, splits, splits-base, ends, Form, end, common-line, ours-line, base-line, theirs-line, mark, first-shown, ahead-shown, block-ending, base-ending, block-endings, marker-endings, Open-line, Closes, is-marker, Unmarked, Marker-laws}
+use Rattle.rules.specs.Pieces.{Kind, common, ours, base, theirs, marker, ending, Chunk, all-bytes}
+use Rattle.rules.specs.Steps.{Step, put, close, each, left-open, pieces-of}
+use Rattle.rules.specs.Markers.{Labels, marker-steps}
+use Rattle.rules.specs.Blocks.{blocked, before-block, base-lines, base-steps, block-steps, agreed-steps, keep-steps, marker-ending}
+use Rattle.rules.specs.Unions.{back-close, union-steps}
+use Rattle.rules.specs.Rendering.{group-steps, cluster-steps, steps-from, rendering}
+use Rattle.rules.specs.Order.{Kept}
+use Rattle.rules.specs.MarkerLaws.{Mark, less, bar, equals, greater, mark-byte, mark-label, piece, label-pieces, closed, Place, out, in-ours, in-base, in-theirs, Moves, opens, bases, splits, splits-base, ends, Form, end, common-line, ours-line, base-line, theirs-line, mark, first-shown, ahead-shown, block-ending, base-ending, block-endings, marker-endings, Open-line, Closes, is-marker, Unmarked, Marker-laws}
 use Rattle.rules.proofs.Fits.{Fit, kept-fit}
 use Rattle.rules.proofs.Verdicts.{blocked-is}
 
@@ -44,19 +51,19 @@ module _ (st : ConflictStyle) (n : ℕ) (l : Labels) where
 
   commons : (ls : List Line) → Good [] out (each common ls) out
   commons [] rest fs k o = k o
-  commons (x ∷ xs) rest fs k o = common-line x (commons xs rest fs k (open-after o x))
+  commons (x ∷ xs) rest fs k o = common-line x (commons xs rest fs k (left-open o x))
 
   ours-good : (e : Ending) (ls : List Line) → Good [] (in-ours e) (each ours ls) (in-ours e)
   ours-good e [] rest fs k o = k o
-  ours-good e (x ∷ xs) rest fs k o = ours-line x (ours-good e xs rest fs k (open-after o x))
+  ours-good e (x ∷ xs) rest fs k o = ours-line x (ours-good e xs rest fs k (left-open o x))
 
   base-good : (e : Ending) (ls : List Line) → Good [] (in-base e) (each base ls) (in-base e)
   base-good e [] rest fs k o = k o
-  base-good e (x ∷ xs) rest fs k o = base-line x (base-good e xs rest fs k (open-after o x))
+  base-good e (x ∷ xs) rest fs k o = base-line x (base-good e xs rest fs k (left-open o x))
 
   theirs-good : (e : Ending) (ls : List Line) → Good [] (in-theirs e) (each theirs ls) (in-theirs e)
   theirs-good e [] rest fs k o = k o
-  theirs-good e (x ∷ xs) rest fs k o = theirs-line x (theirs-good e xs rest fs k (open-after o x))
+  theirs-good e (x ∷ xs) rest fs k o = theirs-line x (theirs-good e xs rest fs k (left-open o x))
 
   marked : (o : Bool) (c : ℕ) (label : Option (List ℕ)) (e : Ending) (rest : List Step)
       → pieces-of o (marker-steps c n label (ending-bytes e) ++ rest) ≡ closed o e ++ ((piece marker (replicate n c) ∷ (label-pieces label ++ (piece marker (ending-bytes e) ∷ []))) ++ pieces-of false rest)
@@ -284,14 +291,14 @@ last-byte : (b : ℕ) (bs : List ℕ) → (xs : List ℕ) × (b ∷ bs ≡ xs ++
 last-byte b [] = ([], refl)
 last-byte b (c ∷ cs) = let (xs, e) = last-byte c cs in (b ∷ xs, ap (λ (r : List ℕ). b ∷ r) e)
 
-open-more : (past : List ℕ) (o : Bool) (bs : List ℕ) → (o ≡ true → Open-line past) → open-after o bs ≡ true → Open-line (past ++ bs)
+open-more : (past : List ℕ) (o : Bool) (bs : List ℕ) → (o ≡ true → Open-line past) → left-open o bs ≡ true → Open-line (past ++ bs)
 open-more past o [] f e = subst Open-line (sym (append-nil past)) (f e)
 open-more past o (b ∷ bs) f e =
     let (xs, w) = last-byte b bs in
     let z = getD (b ∷ bs) (length bs) 0 in
     (past ++ xs, z, ap (λ (r : List ℕ). past ++ r) w ∙ sym (append-assoc past xs (z ∷ [])), λ q. eqb-false z 10 (not-true (eqb z 10) e) q)
 
-closing-shut : (e : Ending) (o : Bool) → open-after o (ending-bytes e) ≡ false
+closing-shut : (e : Ending) (o : Bool) → left-open o (ending-bytes e) ≡ false
 closing-shut Newline o = refl
 closing-shut ReturnNewline o = refl
 
@@ -320,7 +327,7 @@ not-ending k e q = true≢false (sym (ap is-ending q) ∙ e)
 
 says : (past : List ℕ) (o : Bool) (ss : List Step) → All Plain ss → (o ≡ true → Open-line past) → Says past (pieces-of o ss)
 says past o [] p f = says-nil past
-says past o (put c ∷ ss) p f = says-more past c (pieces-of (open-after o (c .bytes)) ss) (λ k. absurd (not-ending (c .kind) (p .0) k)) (says (past ++ c .bytes) (open-after o (c .bytes)) ss (p .1) (open-more past o (c .bytes) f))
+says past o (put c ∷ ss) p f = says-more past c (pieces-of (left-open o (c .bytes)) ss) (λ k. absurd (not-ending (c .kind) (p .0) k)) (says (past ++ c .bytes) (left-open o (c .bytes)) ss (p .1) (open-more past o (c .bytes) f))
 says past true (close nl ∷ ss) p f = says-more past (record { kind = ending; bytes = nl }) (pieces-of false ss) (λ k. (f refl, p .0)) (says (past ++ nl) false ss (p .1) (λ e. absurd (false≢true e)))
 says past false (close nl ∷ ss) p f = says past false ss (p .1) (λ e. absurd (false≢true e))
 
@@ -341,7 +348,7 @@ each-bare k e (l ∷ ls) = (e, each-bare k e ls)
 
 bare-pieces : (o : Bool) (ss : List Step) → All Bare ss → All Unmarked (pieces-of o ss)
 bare-pieces o [] p = tt
-bare-pieces o (put c ∷ ss) p = (p .0, bare-pieces (open-after o (c .bytes)) ss (p .1))
+bare-pieces o (put c ∷ ss) p = (p .0, bare-pieces (left-open o (c .bytes)) ss (p .1))
 bare-pieces o (close nl ∷ ss) p = let r = bare-pieces false ss (p .1) in cond-both o (record { kind = ending; bytes = nl } ∷ pieces-of false ss) (pieces-of false ss) (All Unmarked) (λ _. (refl, r)) (λ _. r)
 
 module _ (m : modes.Conflict) (s : Sheets) (l : Labels) (bare : (since : ℕ) (k : Cluster) → All Bare (group-steps m s l since k)) where

@@ -8,21 +8,29 @@ use Rattle.std.specs.declared.option.Option.the-variants.{None, Some}
 use lib.ListN.{drop}
 use lib.Seq.{append-snoc}
 use Rattle.std.specs.shelf.Lists.{All}
-use Rattle.rules.specs.Pieces.{common, ours, base, theirs, marker, ending, Chunk}
 use Rattle.rules.specs.declared.hunk.Hunk.{Hunk}
+use Rattle.rules.specs.declared.mode.Conflict.the-variants.{Keep}
 use Rattle.rules.specs.declared.mode.ConflictStyle.{ConflictStyle}
 use Rattle.rules.specs.declared.mode.ConflictStyle.the-variants.{Merge, Diff3, ZealousDiff3}
-use Rattle.rules.specs.declared.mode.Conflict.the-variants.{Keep}
 use Rattle.rules.specs.Lines.{Line, between, same-lines}
-use Rattle.rules.specs.Hunks.{Sheets, hunk-lines, side-lines, walk}
-use Rattle.rules.specs.Groups.{Cluster, clusters, from, to, stretch, is-group, sides-differ}
+use Rattle.rules.specs.SharedLines.{shared-start, shared-end}
+use Rattle.rules.specs.Hunks.{Sheets, hunk-lines, side-lines}
+use Rattle.rules.specs.Walk.{walk}
+use Rattle.rules.specs.Groups.{Cluster, clusters, from, to, is-group}
+use Rattle.rules.specs.Filling.{stretch, sides-differ, ours-lines, theirs-lines}
+use Rattle.rules.specs.Sides.{Sides, line-left, contracted-sides, sides-in}
 use Rattle.rules.specs.Endings.{ending-of, or-newline}
-use Rattle.rules.specs.Rendering.{Labels, Step, put, close, each, label-steps, marker-steps, Sides, blocked, line-left, contracted-sides, sides-in, base-lines, base-steps, block-steps, agreed-steps, keep-steps, marker-ending, group-steps, cluster-steps, steps-from, pieces-of, open-after, rendering}
-use Rattle.rules.specs.Agreement.{Kept, Item, line, block, Part, outside, in-o, in-b, in-t, more-pieces, Reading, start, given-by, read-kind, read-on, outline}
-use Rattle.rules.specs.Outline.{shared-start, shared-end, ours-lines, theirs-lines, drawn-in, base-part, group-items, cluster-items, items}
-use Rattle.rules.proofs.Shared.{parts-join, equal-middle, same-lines-true}
+use Rattle.rules.specs.Pieces.{common, ours, base, theirs, marker, ending, Chunk}
+use Rattle.rules.specs.Steps.{Step, put, close, each, pieces-of, left-open}
+use Rattle.rules.specs.Markers.{Labels, label-steps, marker-steps}
+use Rattle.rules.specs.Blocks.{blocked, base-lines, base-steps, block-steps, agreed-steps, keep-steps, marker-ending}
+use Rattle.rules.specs.Rendering.{group-steps, cluster-steps, steps-from, rendering}
+use Rattle.rules.specs.Outline.{Item, line, block, Part, outside, in-o, in-b, in-t, more-pieces, Reading, start, given-by, read-kind, read-on, outline}
+use Rattle.rules.specs.GroupOutline.{drawn-in, base-part, group-items, cluster-items, items}
+use Rattle.rules.specs.Order.{Kept}
 use Rattle.rules.proofs.Contracting.{Sides-lines, sides-lines, left-is}
 use Rattle.rules.proofs.Fits.{Fit, kept-fit}
+use Rattle.rules.proofs.Shared.{parts-join, equal-middle, same-lines-true}
 use Rattle.rules.proofs.Steps.{agreed-lines}
 
 abbrev at : Part → ℕ → List Line → List Line → List Line → Reading
@@ -40,7 +48,7 @@ module _ (st : ConflictStyle) (l : Labels) where
 
   pieces-read : (r : Reading) (o : Bool) (ss : List Step) → read-on st l r (pieces-of o ss) ≡ read-steps r ss
   pieces-read r o [] = refl
-  pieces-read r o (put c ∷ ss) = ap (λ (is : List Item). given-by r (c .kind) (c .bytes) ++ is) (pieces-read (read-kind st l r (c .kind) (c .bytes)) (open-after o (c .bytes)) ss)
+  pieces-read r o (put c ∷ ss) = ap (λ (is : List Item). given-by r (c .kind) (c .bytes) ++ is) (pieces-read (read-kind st l r (c .kind) (c .bytes)) (left-open o (c .bytes)) ss)
   pieces-read r o (close e ∷ ss) = closed-read r e o (pieces-of false ss) (read-steps r ss) (pieces-read r false ss)
 
   -- steps that give some items and lead from one reading to another

@@ -1,5 +1,5 @@
 -- The rules of line endings.
-use Prim.Native.Nat.{ℕ, _+_, _-_, _≤_, _<_}
+use Prim.Native.Nat.{ℕ, _-_, _≤_, _<_}
 use native.Mathlib.Omega.{arith}
 use mathlib.Core.Path.{_≡_, refl, sym, ap, _∙_}
 use mathlib.Core.Bool.{Bool, true, false, cond, not}
@@ -10,13 +10,14 @@ use lib.ListN.{length, getD, length-append}
 use lib.Seq.{getD-at}
 use lib.Dec.{leb, eqb}
 use Rattle.std.proofs.shelf.Tests.{le-leb, lt-leb, eq-eqb, ne-eqb, not-from-true, not-from-false}
-use Rattle.rules.specs.declared.hunk.Span.{Span}
-use Rattle.rules.specs.declared.hunk.Hunk.{Hunk}
-use Rattle.rules.specs.Lines.{Line}
-use Rattle.rules.specs.Hunks.{Sheets}
 use Rattle.rules.specs.declared.ending.Ending.{Ending}
 use Rattle.rules.specs.declared.ending.Ending.the-variants.{Newline, ReturnNewline}
-use Rattle.rules.specs.Endings.{by-second-last, ends-in-newline, ending-before, no-lines, ending-back, ending-of, Ending-laws}
+use Rattle.rules.specs.declared.hunk.Hunk.{Hunk}
+use Rattle.rules.specs.declared.hunk.Span.{Span}
+use Rattle.rules.specs.Lines.{Line}
+use Rattle.rules.specs.Hunks.{Sheets}
+use Rattle.rules.specs.Endings.{by-second-last, ends-in-newline, ending-before, no-lines, ending-back, ending-of}
+use Rattle.rules.specs.EndingLaws.{Ending-laws}
 
 has-lines : (r : Span) → r .start < r .end → not (no-lines r) ≡ true
 has-lines r lt = not-from-false (no-lines r) (lt-leb (r .end) (r .start) lt)

@@ -5,15 +5,19 @@ use mathlib.Core.Bool.{Bool, true, false, cond}
 use mathlib.Core.List.{List, [], _∷_, _++_, append-nil}
 use Rattle.std.specs.declared.option.Option.{Option}
 use Rattle.std.specs.declared.option.Option.the-variants.{None, Some}
-use Rattle.rules.specs.Pieces.{Kind, common, ours, base, theirs, marker, ending, Chunk}
 use Rattle.rules.specs.declared.mode.ConflictStyle.{ConflictStyle}
 use Rattle.rules.specs.declared.mode.ConflictStyle.the-variants.{Merge, Diff3, ZealousDiff3}
 use Rattle.rules.specs.Lines.{Line}
 use Rattle.rules.specs.Hunks.{Sheets, side-lines}
-use Rattle.rules.specs.Groups.{Cluster, from, to, stretch}
+use Rattle.rules.specs.Groups.{Cluster, from, to}
+use Rattle.rules.specs.Filling.{stretch}
+use Rattle.rules.specs.Sides.{Sides}
 use Rattle.rules.specs.Endings.{ending-of, or-newline}
-use Rattle.rules.specs.Rendering.{Labels, Step, put, close, each, marker-steps, Sides, blocked, base-steps, base-lines, block-steps, agreed-steps, keep-steps, marker-ending, pieces-of, open-after}
-use Rattle.rules.specs.Agreement.{lines-kept}
+use Rattle.rules.specs.Pieces.{Kind, common, ours, base, theirs, marker, ending, Chunk}
+use Rattle.rules.specs.Steps.{Step, put, close, each, pieces-of, left-open}
+use Rattle.rules.specs.Markers.{Labels, marker-steps}
+use Rattle.rules.specs.Blocks.{blocked, base-steps, base-lines, block-steps, agreed-steps, keep-steps, marker-ending}
+use Rattle.rules.specs.Outline.{lines-kept}
 
 abbrev pub step-lines : (Kind → Bool) → List Step → List Line
 step-lines f [] = []
@@ -37,7 +41,7 @@ module _ (f : Kind → Bool) where
 
   pub pieces-lines : f ending ≡ false → (o : Bool) (ss : List Step) → lines-kept f (pieces-of o ss) ≡ step-lines f ss
   pieces-lines z o [] = refl
-  pieces-lines z o (put c ∷ ss) = rw (pieces-lines z (open-after o (c .bytes)) ss)
+  pieces-lines z o (put c ∷ ss) = rw (pieces-lines z (left-open o (c .bytes)) ss)
   pieces-lines z o (close e ∷ ss) = closed (record { kind = ending; bytes = e }) o (pieces-of false ss) (step-lines f ss) z (pieces-lines z false ss)
 
   either-append : (b : Bool) (x : Line) (xs ys zs : List Line) → xs ≡ ys ++ zs → cond b (x ∷ xs) xs ≡ cond b (x ∷ ys) ys ++ zs

@@ -2,7 +2,7 @@
 use Prim.Native.Nat.{ℕ, zero, suc, _-_, _≤_, _<_}
 use native.Mathlib.Omega.{arith}
 use mathlib.Core.Path.{_≡_, refl, sym, ap, _∙_, subst, subst₂}
-use mathlib.Core.Bool.{true, false, _&&_}
+use mathlib.Core.Bool.{true, _&&_}
 use mathlib.Core.List.{List, [], _∷_, _++_}
 use Rattle.std.specs.declared.option.Option.{Option}
 use Rattle.std.specs.declared.option.Option.the-variants.{None, Some}
@@ -11,26 +11,29 @@ use lib.Dec.{leb}
 use Rattle.std.proofs.shelf.Elements.{all-push, all-take}
 use Rattle.std.specs.shelf.Lists.{All}
 use Rattle.std.proofs.shelf.Tests.{false≢true, leb-true, le-leb, and-parts, and-from}
+use Rattle.rules.specs.declared.hunk.Hunk.{Hunk}
 use Rattle.rules.specs.declared.hunk.Side.{Side}
 use Rattle.rules.specs.declared.hunk.Side.the-variants.{Current, Other, Ancestor}
-use Rattle.rules.specs.declared.hunk.Hunk.{Hunk}
-use Rattle.rules.specs.Hunks.{Sheets}
-use Rattle.rules.specs.Pieces.{Chunk}
-use Rattle.rules.specs.Agreement.{In-order, Kept, exchanged-sheets, Alike}
 use Rattle.rules.specs.declared.refusal.TableRefusal.{TableRefusal}
 use Rattle.rules.specs.Limits.{max-lines, max-hunks}
-use Rattle.rules.specs.Questions.{ask, changed}
+use Rattle.rules.specs.Hunks.{Sheets}
+use Rattle.rules.specs.Pieces.{Chunk}
+use Rattle.rules.specs.Questions.{changed}
 use Rattle.rules.specs.Tables.{Held, opened, new-table, held-of, holding, within, changes, follows, last-from, last-of, without-last, open-questions, enter-questions, withdraw-questions, same-side, sound, keeps-from}
+use Rattle.rules.specs.Runs.{Call, open-with, enter, withdraw, render, after-call, after-calls, after-run, opening, No-opening}
+use Rattle.rules.specs.Exchange.{exchanged-sheets, Holds-exchanged}
+use Rattle.rules.specs.Order.{In-order, Kept}
 use Rattle.rules.specs.TableLaws.{Not-empty, May-enter, Table-keeps, Keeps-law}
-use Rattle.rules.specs.Renders.{Counted}
-use Rattle.rules.specs.Runs.{Call, open-with, enter, withdraw, render, after-call, after-calls, after-run, Tables-keep, opening, No-opening, Few-lines, Holds-exchanged, Call-laws, Agreement-over-runs, Handhelds-agree-over-runs}
+use Rattle.rules.specs.RenderLaws.{Counted}
+use Rattle.rules.specs.Agreement.{Alike}
+use Rattle.rules.specs.RunLaws.{Tables-keep, Few-lines, Call-laws, Agreement-over-runs, Units-agree-over-runs}
+use Rattle.rules.proofs.Agreed.{laws, units-agree}
 use Rattle.rules.proofs.Asking.{yes-then, then-yes}
 use Rattle.rules.proofs.Keeping.{side-same}
-use Rattle.rules.proofs.Rules.{within-says, says-within, changes-says, says-changes, follows-says, says-follows, last-behind, may-enter, follow-rules}
-use Rattle.rules.proofs.Agreed.{laws, handhelds-agree}
-use Rattle.rules.proofs.Rendered.{render-rules, accepted-counted}
-use Rattle.rules.proofs.Turned.{same-calls}
 use Rattle.rules.proofs.Lengths.{length-law}
+use Rattle.rules.proofs.Rendered.{render-rules, accepted-counted}
+use Rattle.rules.proofs.Rules.{within-says, says-within, changes-says, says-changes, follows-says, says-follows, last-behind, may-enter, follow-rules}
+use Rattle.rules.proofs.Turned.{same-calls}
 
 -- one more hunk, behind the last
 module _ (side : Side) (na ns : ℕ) (h : Hunk) (e : h .side ≡ side) (b₀ : h .before .start ≤ h .before .end) (b₁ : h .before .end ≤ na) (a₀ : h .after .start ≤ h .after .end) (a₁ : h .after .end ≤ ns) where
@@ -166,7 +169,7 @@ table-kept s t p n = record {
 }
 
 alike-after : (s : Sheets) (t t′ : Held) → Kept s (t .current) (t .other) → Holds-exchanged t t′ → Alike s (t .current) (t .other) (t′ .current) (t′ .other)
-alike-after s t t′ p q = subst₂ (λ (x y : List Hunk). Alike s (t .current) (t .other) x y) (sym (q .0)) (sym (q .1)) (handhelds-agree s (t .current) (t .other) p .alike)
+alike-after s t t′ p q = subst₂ (λ (x y : List Hunk). Alike s (t .current) (t .other) x y) (sym (q .0)) (sym (q .1)) (units-agree s (t .current) (t .other) p .alike)
 
 call-laws : (xs : List Call) → Call-laws xs
 call-laws xs = record {
@@ -261,5 +264,5 @@ agree-over-runs V rule fresh V′ rule′ fresh′ = record {
       };
 }
 
-pub handhelds-agree-over-runs : Handhelds-agree-over-runs
-handhelds-agree-over-runs = agree-over-runs _ _ _ _ _ _
+pub units-agree-over-runs : Units-agree-over-runs
+units-agree-over-runs = agree-over-runs _ _ _ _ _ _

@@ -9,16 +9,17 @@ use Rattle.std.specs.declared.result.Result.{Result}
 use lib.ListN.{length, take, length-map}
 use lib.Dec.{leb}
 use Rattle.std.proofs.shelf.Lists.{take-map}
+use Rattle.rules.specs.declared.hunk.Hunk.{Hunk}
 use Rattle.rules.specs.declared.hunk.Side.{Side}
 use Rattle.rules.specs.declared.hunk.Side.the-variants.{Current, Other, Ancestor}
-use Rattle.rules.specs.declared.hunk.Hunk.{Hunk}
-use Rattle.rules.specs.Agreement.{facing-side, exchanged-hunk}
 use Rattle.rules.specs.declared.refusal.TableRefusal.{TableRefusal}
 use Rattle.rules.specs.declared.refusal.TableRefusal.the-variants.{CountTooLarge}
 use Rattle.rules.specs.Limits.{max-lines}
 use Rattle.rules.specs.Questions.{ask, answered, changed}
 use Rattle.rules.specs.Tables.{Held, opened, new-table, held-of, holding, follows, last-from, last-of, without-last, open-after, enter-questions, enter-after, withdraw-questions, withdraw-after}
-use Rattle.rules.specs.Runs.{Call, open-with, enter, withdraw, render, after-call, after-calls, exchanged-call, answers, Same-calls-same-hunks}
+use Rattle.rules.specs.Runs.{Call, open-with, enter, withdraw, render, after-call, after-calls}
+use Rattle.rules.specs.Exchange.{facing-side, exchanged-hunk, exchanged-call}
+use Rattle.rules.specs.RunLaws.{answers, Same-calls-same-hunks}
 
 abbrev turned : Held → Held
 turned t = record { ancestor-lines = t .ancestor-lines; current-lines = t .other-lines; other-lines = t .current-lines; current = map exchanged-hunk (t .other); other = map exchanged-hunk (t .current) }

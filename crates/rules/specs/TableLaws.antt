@@ -7,16 +7,16 @@ use mathlib.Core.Logic.{_⊎_}
 use Rattle.std.specs.declared.result.Result.the-variants.{Ok, Err}
 use lib.ListN.{length}
 use Rattle.std.specs.shelf.Lists.{All}
+use Rattle.rules.specs.declared.hunk.Hunk.{Hunk}
 use Rattle.rules.specs.declared.hunk.Side.{Side}
 use Rattle.rules.specs.declared.hunk.Side.the-variants.{Current, Other}
 use Rattle.rules.specs.declared.hunk.Span.{Span}
-use Rattle.rules.specs.declared.hunk.Hunk.{Hunk}
 use Rattle.rules.specs.declared.refusal.TableRefusal.{TableRefusal}
 use Rattle.rules.specs.Limits.{max-lines, max-hunks}
 use Rattle.rules.specs.Questions.{Question}
 use Rattle.rules.specs.Refusals.{Table-refuses}
-use Rattle.rules.specs.Agreement.{In-order}
 use Rattle.rules.specs.Tables.{Held, opened, held-of, count-of, holding, open-answer, open-after, enter-answer, enter-after, withdraw-answer, withdraw-after, keeps}
+use Rattle.rules.specs.Order.{In-order}
 
 -- The rules of enter, in numbers.
 abbrev pub Two-sided : Side → Type 0

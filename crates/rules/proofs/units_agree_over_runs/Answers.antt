@@ -1,4 +1,4 @@
-use Rattle.rules.proofs.handhelds_agree_over_runs.Needs as need
+use Rattle.rules.proofs.units_agree_over_runs.Needs as need
 use Rattle.rules.proofs.Tables.{agree-over-runs}
 
 pub returns : need.returns
