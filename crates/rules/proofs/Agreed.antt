@@ -1,12 +1,12 @@
 -- The agreement whole.
 use mathlib.Core.Path.{_∙_, ap, sym}
 use mathlib.Core.List.{List}
-use Rattle.rules.specs.Outline as read
 use Rattle.rules.specs.declared.hunk.Hunk.{Hunk}
 use Rattle.rules.specs.Hunks.{Sheets}
 use Rattle.rules.specs.Walk.{walk}
 use Rattle.rules.specs.Groups.{clusters}
 use Rattle.rules.specs.Outline.{has-block, spelled}
+use Rattle.rules.specs.Outline as read
 use Rattle.rules.specs.Order.{Kept}
 use Rattle.rules.specs.OutlineLaws.{Outline-laws}
 use Rattle.rules.specs.Agreement.{Own-laws, Units-agree, Laws}

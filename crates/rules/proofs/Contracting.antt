@@ -81,21 +81,21 @@ neither-line ls rs e =
     let p = or-parts (not (no-line ls)) (not (no-line rs)) e in
     (no-line-true ls (not-false (no-line ls) (p .0)), no-line-true rs (not-false (no-line rs) (p .1)))
 
-pub nothing-left : (s : Sheets) (d : Sides) → line-left s d ≡ false → (side-lines s (d .left) ≡ []) × (side-lines s (d .right) ≡ [])
+pub nothing-left : (s : Sheets) (d : Sides) → line-left s (d .left) (d .right) ≡ false → (side-lines s (d .left) ≡ []) × (side-lines s (d .right) ≡ [])
 nothing-left s d e = neither-line (side-lines s (d .left)) (side-lines s (d .right)) e
 
-pub left-is : (s : Sheets) (xs ys : List Line) (d : Sides) → Sides-lines s xs ys d → line-left s d ≡ not (same-lines xs ys)
+pub left-is : (s : Sheets) (xs ys : List Line) (d : Sides) → Sides-lines s xs ys d → line-left s (d .left) (d .right) ≡ not (same-lines xs ys)
 left-is s xs ys d p = by (same-lines xs ys) refl
   where
-    by : (b : Bool) → same-lines xs ys ≡ b → line-left s d ≡ not b
+    by : (b : Bool) → same-lines xs ys ≡ b → line-left s (d .left) (d .right) ≡ not b
     by true e =
         let q = same-lines-true xs ys e in
         let a = p .left ∙ equal-middle xs ys q in
         let b = p .right ∙ equal-middle ys xs (sym q) in
         rw (a, b)
-    by false e = ⊎-elim (λ h. h) (λ h. absurd (no h)) (cases-bool (line-left s d))
+    by false e = ⊎-elim (λ h. h) (λ h. absurd (no h)) (cases-bool (line-left s (d .left) (d .right)))
       where
-        no : line-left s d ≡ false → ⊥
+        no : line-left s (d .left) (d .right) ≡ false → ⊥
         no h =
             let n = nothing-left s d h in
             let q = no-middle xs ys (sym (p .left) ∙ n .0) (sym (p .right) ∙ n .1) in

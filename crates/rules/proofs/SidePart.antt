@@ -37,21 +37,21 @@ none-passed false false = refl
 
 -- where no line is left, a block would have none
 left-passed : (f : Kind → Bool) (s : Sheets) (d : Sides)
-    → cond (line-left s d) (passed f (side-lines s (d .left)) (side-lines s (d .right))) [] ≡ passed f (side-lines s (d .left)) (side-lines s (d .right))
-left-passed f s d = by (line-left s d) refl
+    → cond (line-left s (d .left) (d .right)) (passed f (side-lines s (d .left)) (side-lines s (d .right))) [] ≡ passed f (side-lines s (d .left)) (side-lines s (d .right))
+left-passed f s d = by (line-left s (d .left) (d .right)) refl
   where
-    by : (b : Bool) → line-left s d ≡ b → cond b (passed f (side-lines s (d .left)) (side-lines s (d .right))) [] ≡ passed f (side-lines s (d .left)) (side-lines s (d .right))
+    by : (b : Bool) → line-left s (d .left) (d .right) ≡ b → cond b (passed f (side-lines s (d .left)) (side-lines s (d .right))) [] ≡ passed f (side-lines s (d .left)) (side-lines s (d .right))
     by true e = refl
     by false e = let n = nothing-left s d e in rw (n .0, n .1) (sym (none-passed (f ours) (f theirs)))
 
 -- of contracted sides
 module _ (s : Sheets) (xs ys : List Line) (d : Sides) (p : Sides-lines s xs ys d) where
-  ours-mid : side-lines s (d .front) ++ (cond (line-left s d) (passed reads-as-ours (side-lines s (d .left)) (side-lines s (d .right))) [] ++ side-lines s (d .back)) ≡ xs
+  ours-mid : side-lines s (d .front) ++ (cond (line-left s (d .left) (d .right)) (passed reads-as-ours (side-lines s (d .left)) (side-lines s (d .right))) [] ++ side-lines s (d .back)) ≡ xs
   ours-mid =
       rw (left-passed reads-as-ours s d)
       (ap₂ (λ (u v : List Line). u ++ v) (p .front) (ap₂ (λ (u v : List Line). u ++ v) (append-nil (side-lines s (d .left)) ∙ p .left) (p .back)) ∙ parts-join xs ys)
 
-  theirs-mid : side-lines s (d .front) ++ (cond (line-left s d) (passed reads-as-theirs (side-lines s (d .left)) (side-lines s (d .right))) [] ++ side-lines s (d .back)) ≡ ys
+  theirs-mid : side-lines s (d .front) ++ (cond (line-left s (d .left) (d .right)) (passed reads-as-theirs (side-lines s (d .left)) (side-lines s (d .right))) [] ++ side-lines s (d .back)) ≡ ys
   theirs-mid =
       rw (left-passed reads-as-theirs s d)
       (ap₂ (λ (u v : List Line). u ++ v) (p .front) (ap₂ (λ (u v : List Line). u ++ v) (p .right) (p .back)) ∙ parts-join-other xs ys)
@@ -66,7 +66,7 @@ theirs-whole xs ys true e = append-nil xs ∙ same-lines-true xs ys e
 theirs-whole xs ys false e = append-nil ys
 
 module _ (s : Sheets) (n : ℕ) (l : Labels) (since : ℕ) (k : Cluster) (fit : Fit s k) where
-  ours-kept : (st : ConflictStyle) → step-lines reads-as-ours (keep-steps st s n l since k (sides-in st s k)) ≡ ours-lines s k
+  ours-kept : (st : ConflictStyle) → step-lines reads-as-ours (keep-steps st s n l since (from k) (to k) (sides-in st s k)) ≡ ours-lines s k
   ours-kept Merge =
       keep-is reads-as-ours refl refl refl Merge s n l since k (contracted-sides s k)
       ∙ ours-mid s (ours-lines s k) (theirs-lines s k) (contracted-sides s k) (sides-lines s k (fit .ours) (fit .theirs))
@@ -77,7 +77,7 @@ module _ (s : Sheets) (n : ℕ) (l : Labels) (since : ℕ) (k : Cluster) (fit : 
       keep-is reads-as-ours refl refl refl ZealousDiff3 s n l since k (contracted-sides s k)
       ∙ ours-mid s (ours-lines s k) (theirs-lines s k) (contracted-sides s k) (sides-lines s k (fit .ours) (fit .theirs))
 
-  theirs-kept : (st : ConflictStyle) → step-lines reads-as-theirs (keep-steps st s n l since k (sides-in st s k)) ≡ theirs-lines s k
+  theirs-kept : (st : ConflictStyle) → step-lines reads-as-theirs (keep-steps st s n l since (from k) (to k) (sides-in st s k)) ≡ theirs-lines s k
   theirs-kept Merge =
       keep-is reads-as-theirs refl refl refl Merge s n l since k (contracted-sides s k)
       ∙ theirs-mid s (ours-lines s k) (theirs-lines s k) (contracted-sides s k) (sides-lines s k (fit .ours) (fit .theirs))

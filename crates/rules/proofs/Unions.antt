@@ -83,12 +83,12 @@ union-marks s k fit =
     ap not (same-either (side-lines s (d .left)) (side-lines s (d .right)) (ours-lines s k) (theirs-lines s k) (p .then-equal) (λ e. let n = p .nothing-left e in n .0 ∙ sym (n .1)))
 
 -- Union's lines
-no-close : (s : Sheets) (d : Sides) (hs : List Hunk) → step-lines reads-as-line (back-close s d hs) ≡ []
+no-close : (s : Sheets) (d : Sides) (hs : List Hunk) → step-lines reads-as-line (back-close s (d .right) hs) ≡ []
 no-close s d [] = refl
 no-close s d (h ∷ hs) = refl
 
 module _ (s : Sheets) (d : Sides) where
-  left-written : (b : Bool) → line-left s d ≡ b
+  left-written : (b : Bool) → line-left s (d .left) (d .right) ≡ b
       → step-lines reads-as-line (cond b (close (or-newline (ending-of s (d .front))) ∷ (each ours (side-lines s (d .left)) ++ (close (or-newline (ending-of s (d .left))) ∷ each theirs (side-lines s (d .right))))) []) ≡ side-lines s (d .left) ++ side-lines s (d .right)
   left-written true e = step-join reads-as-line (each ours (side-lines s (d .left))) (close (or-newline (ending-of s (d .left))) ∷ each theirs (side-lines s (d .right))) (each-kept reads-as-line ours (side-lines s (d .left)) refl) (each-kept reads-as-line theirs (side-lines s (d .right)) refl)
   left-written false e = let n = nothing-left s d e in rw (n .0, n .1)
@@ -98,11 +98,11 @@ append-four a b c d = simp append-assoc
 
 pub union-written : (s : Sheets) (d : Sides) → step-lines reads-as-line (union-steps s d) ≡ side-lines s (d .front) ++ (side-lines s (d .left) ++ (side-lines s (d .right) ++ side-lines s (d .back)))
 union-written s d =
-    let mid = cond (line-left s d) (close (or-newline (ending-of s (d .front))) ∷ (each ours (side-lines s (d .left)) ++ (close (or-newline (ending-of s (d .left))) ∷ each theirs (side-lines s (d .right))))) [] in
-    let bc = back-close s d (d .back) in
+    let mid = cond (line-left s (d .left) (d .right)) (close (or-newline (ending-of s (d .front))) ∷ (each ours (side-lines s (d .left)) ++ (close (or-newline (ending-of s (d .left))) ∷ each theirs (side-lines s (d .right))))) [] in
+    let bc = back-close s (d .right) (d .back) in
     let eb = each common (side-lines s (d .back)) in
     step-join reads-as-line (each common (side-lines s (d .front))) (mid ++ (bc ++ eb)) (each-kept reads-as-line common (side-lines s (d .front)) refl)
-    (step-join reads-as-line mid (bc ++ eb) (left-written s d (line-left s d) refl)
+    (step-join reads-as-line mid (bc ++ eb) (left-written s d (line-left s (d .left) (d .right)) refl)
     (step-join reads-as-line bc eb (no-close s d (d .back)) (each-kept reads-as-line common (side-lines s (d .back)) refl)))
     ∙ append-four (side-lines s (d .front)) (side-lines s (d .left)) (side-lines s (d .right)) (side-lines s (d .back))
 

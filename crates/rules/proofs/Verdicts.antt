@@ -23,7 +23,7 @@ use Rattle.rules.specs.VerdictLaws.{some-group-differs}
 use Rattle.rules.proofs.Contracting.{sides-lines, left-is}
 use Rattle.rules.proofs.Fits.{Fit, kept-fit}
 
-pub blocked-is : (st : ConflictStyle) (s : Sheets) (k : Cluster) → Fit s k → blocked st s k (sides-in st s k) ≡ sides-differ s k
+pub blocked-is : (st : ConflictStyle) (s : Sheets) (k : Cluster) → Fit s k → blocked st s (sides-in st s k .left) (sides-in st s k .right) ≡ sides-differ s k
 blocked-is Merge s k p = left-is s (ours-lines s k) (theirs-lines s k) (contracted-sides s k) (sides-lines s k (p .ours) (p .theirs))
 blocked-is Diff3 s k p = refl
 blocked-is ZealousDiff3 s k p = left-is s (ours-lines s k) (theirs-lines s k) (contracted-sides s k) (sides-lines s k (p .ours) (p .theirs))

@@ -45,6 +45,6 @@ abbrev pub or-else : Option Ending → Option Ending → Option Ending
 or-else None b = b
 or-else (Some e) b = Some e
 
-abbrev pub or-newline : Option Ending → List ℕ
-or-newline None = 10 ∷ []
-or-newline (Some e) = ending-bytes e
+abbrev pub or-newline : Option Ending → Ending
+or-newline None = Newline
+or-newline (Some e) = e

@@ -6,7 +6,7 @@ use lib.Dec.{ltb}
 use Rattle.rules.specs.declared.hunk.Hunk.{Hunk}
 use Rattle.rules.specs.declared.hunk.Side.{Side}
 use Rattle.rules.specs.declared.hunk.Side.the-variants.{Ancestor}
-use Rattle.rules.specs.Lines.{same-lines, Line}
+use Rattle.rules.specs.Lines.{Line, between, same-lines}
 use Rattle.rules.specs.Hunks.{Sheets, side-lines}
 use Rattle.rules.specs.Walk.{is-current, is-other, picked}
 use Rattle.rules.specs.Groups.{Cluster, members, from, to}
@@ -36,6 +36,10 @@ ours-lines s k = side-lines s (ours-of k)
 
 abbrev pub theirs-lines : Sheets → Cluster → List Line
 theirs-lines s k = side-lines s (theirs-of k)
+
+-- The ancestor's lines of its range.
+abbrev pub base-lines : Sheets → Cluster → List Line
+base-lines s k = between (s .ancestor) (from k) (to k)
 
 -- The two sides of a group differ when their lists of lines do.
 abbrev pub sides-differ : Sheets → Cluster → Bool

@@ -8,7 +8,7 @@ use Rattle.rules.specs.Lines.{Line, between}
 use Rattle.rules.specs.SharedLines.{shared-start, middle, shared-end}
 use Rattle.rules.specs.Hunks.{Sheets, hunk-lines}
 use Rattle.rules.specs.Groups.{Cluster, from, to, is-group}
-use Rattle.rules.specs.Filling.{sides-differ, ours-lines, theirs-lines}
+use Rattle.rules.specs.Filling.{sides-differ, ours-lines, theirs-lines, base-lines}
 use Rattle.rules.specs.Sides.{contracts, with-base}
 use Rattle.rules.specs.Outline.{Item, line, block}
 
@@ -21,7 +21,7 @@ abbrev pub block-items : ConflictStyle → List Line → List Line → List Line
 block-items st xs b ys = cond (contracts st) (drawn-in xs b ys) (block xs b ys ∷ [])
 
 abbrev pub base-part : ConflictStyle → Sheets → Cluster → List Line
-base-part st s k = cond (with-base st) (between (s .ancestor) (from k) (to k)) []
+base-part st s k = cond (with-base st) (base-lines s k) []
 
 abbrev pub group-items : ConflictStyle → Sheets → Cluster → List Item
 group-items st s k = cond (sides-differ s k) (block-items st (ours-lines s k) (base-part st s k) (theirs-lines s k)) (map line (ours-lines s k))

@@ -15,6 +15,9 @@ pub record Sheets : Type 0 where
   pub current : List Line
   pub other : List Line
 
+abbrev pub sheets-of : List Line → List Line → List Line → Sheets
+sheets-of a c o = record { ancestor = a; current = c; other = o }
+
 abbrev pub sheet-of : Sheets → Side → List Line
 sheet-of s Current = s .current
 sheet-of s Other = s .other

@@ -100,11 +100,11 @@ ahead-shown s since k [] = ending-of s (stretch since (from k))
 ahead-shown s since k (h ∷ hs) = ending-of s (h ∷ hs)
 
 -- A block's markers have the ending shown ahead of it, or else by ours; the base's the one that the group's range in the ancestor shows.
-abbrev pub block-ending : ConflictStyle → Sheets → ℕ → Cluster → Ending
-block-ending st s since k = first-shown (ahead-shown s since k (sides-in st s k .front) ∷ (ending-of s (sides-in st s k .left) ∷ []))
+abbrev pub block-shown : ConflictStyle → Sheets → ℕ → Cluster → Ending
+block-shown st s since k = first-shown (ahead-shown s since k (sides-in st s k .front) ∷ (ending-of s (sides-in st s k .left) ∷ []))
 
-abbrev pub base-ending : Sheets → Cluster → Ending
-base-ending s k = first-shown (ending-of s (stretch (from k) (to k)) ∷ [])
+abbrev pub base-shown : Sheets → Cluster → Ending
+base-shown s k = first-shown (ending-of s (stretch (from k) (to k)) ∷ [])
 
 -- The endings of all markers: of each group whose sides differ, those of its block.
 abbrev pub block-endings : ConflictStyle → Ending → Ending → List Ending
@@ -112,7 +112,7 @@ block-endings st e f = e ∷ (cond (with-base st) (f ∷ []) [] ++ (e ∷ (e ∷
 
 abbrev pub marker-endings : ConflictStyle → Sheets → ℕ → List Cluster → List Ending
 marker-endings st s since [] = []
-marker-endings st s since (k ∷ ks) = cond (is-group k && sides-differ s k) (block-endings st (block-ending st s since k) (base-ending s k)) [] ++ marker-endings st s (to k) ks
+marker-endings st s since (k ∷ ks) = cond (is-group k && sides-differ s k) (block-endings st (block-shown st s since k) (base-shown s k)) [] ++ marker-endings st s (to k) ks
 
 -- An open line: some byte was written, and the last is not a newline.
 abbrev pub Open-line : List ℕ → Type 0

@@ -4,16 +4,24 @@ use mathlib.Core.List.{List, [], _∷_, _++_}
 use Rattle.std.specs.declared.option.Option.{Option}
 use Rattle.std.specs.declared.option.Option.the-variants.{None, Some}
 use lib.ListN.{replicate}
+use Rattle.rules.specs.declared.ending.Ending.{Ending}
+use Rattle.rules.specs.Endings.{ending-bytes}
 use Rattle.rules.specs.Pieces.{marker}
 use Rattle.rules.specs.Steps.{Step, put, close}
 
-abbrev pub Labels : Type 0
-Labels = record { ancestor : Option (List ℕ); current : Option (List ℕ); other : Option (List ℕ) }
+-- The labels of the three sheets.
+pub record Labels : Type 0 where
+  pub ancestor : Option (List ℕ)
+  pub current : Option (List ℕ)
+  pub other : Option (List ℕ)
 
--- A marker: its character so many times, a space and a label if one is given, and a line ending.
+abbrev pub labels-of : Option (List ℕ) → Option (List ℕ) → Option (List ℕ) → Labels
+labels-of a c o = record { ancestor = a; current = c; other = o }
+
 abbrev pub label-steps : Option (List ℕ) → List Step
 label-steps None = []
 label-steps (Some l) = put (record { kind = marker; bytes = 32 ∷ [] }) ∷ (put (record { kind = marker; bytes = l }) ∷ [])
 
-abbrev pub marker-steps : ℕ → ℕ → Option (List ℕ) → List ℕ → List Step
-marker-steps c n label nl = close nl ∷ (put (record { kind = marker; bytes = replicate n c }) ∷ (label-steps label ++ (put (record { kind = marker; bytes = nl }) ∷ [])))
+-- A marker begins a line: an open one is closed first, by the marker's own ending.
+abbrev pub marker-steps : ℕ → ℕ → Option (List ℕ) → Ending → List Step
+marker-steps c n label e = close e ∷ (put (record { kind = marker; bytes = replicate n c }) ∷ (label-steps label ++ (put (record { kind = marker; bytes = ending-bytes e }) ∷ [])))

@@ -20,7 +20,7 @@ use Rattle.rules.specs.Blocks.{keep-steps}
 use Rattle.rules.specs.Unions.{union-steps}
 
 abbrev pub group-steps : modes.Conflict → Sheets → Labels → ℕ → Cluster → List Step
-group-steps (Keep style n) s l since k = keep-steps style s n l since k (sides-in style s k)
+group-steps (Keep style n) s l since k = keep-steps style s n l since (from k) (to k) (sides-in style s k)
 group-steps ResolveWithOurs s l since k = each common (side-lines s (ours-of k))
 group-steps ResolveWithTheirs s l since k = each common (side-lines s (theirs-of k))
 group-steps ResolveWithUnion s l since k = union-steps s (contracted-sides s k)

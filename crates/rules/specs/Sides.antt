@@ -12,13 +12,13 @@ use Rattle.rules.specs.Groups.{Cluster}
 use Rattle.rules.specs.Filling.{ours-of, theirs-of}
 use Rattle.rules.specs.Contraction.{Contracted, contracted}
 
--- The two sides of a group as a mode takes them: what left them ahead and behind, and what is left.
 pub record Sides : Type 0 where
   pub front : List Hunk
   pub left : List Hunk
   pub right : List Hunk
   pub back : List Hunk
 
+-- The lead is ours or theirs.
 abbrev pub by-lead : Bool → Contracted → Sides
 by-lead true c = record { front = c .front; left = c .lead; right = c .facing; back = c .back }
 by-lead false c = record { front = c .front; left = c .facing; right = c .lead; back = c .back }
@@ -51,5 +51,6 @@ abbrev pub no-line : List Line → Bool
 no-line [] = true
 no-line (l ∷ ls) = false
 
-abbrev pub line-left : Sheets → Sides → Bool
-line-left s d = not (no-line (side-lines s (d .left))) || not (no-line (side-lines s (d .right)))
+-- Whether either side has a line.
+abbrev pub line-left : Sheets → List Hunk → List Hunk → Bool
+line-left s left right = not (no-line (side-lines s left)) || not (no-line (side-lines s right))

@@ -8,9 +8,21 @@ use Rattle.rules.specs.Endings.{ending-of, or-newline}
 use Rattle.rules.specs.Pieces.{common, ours, theirs}
 use Rattle.rules.specs.Steps.{Step, close, each}
 
-abbrev pub back-close : Sheets → Sides → List Hunk → List Step
-back-close s d [] = []
-back-close s d (h ∷ hs) = close (or-newline (ending-of s (d .right))) ∷ []
+-- The ending ahead of back is that of theirs; where nothing is in back, none is needed.
+abbrev pub back-close : Sheets → List Hunk → List Hunk → List Step
+back-close s right [] = []
+back-close s right (h ∷ hs) = close (or-newline (ending-of s right)) ∷ []
+
+-- What is left of the two sides, if either has a line: the ending ahead of ours is that of front, and the one ahead of theirs that of ours.
+abbrev pub both-steps : Sheets → List Hunk → List Hunk → List Hunk → List Step
+both-steps s front left right =
+    cond (line-left s left right)
+    (close (or-newline (ending-of s front)) ∷ (each ours (side-lines s left) ++ (close (or-newline (ending-of s left)) ∷ each theirs (side-lines s right))))
+    []
 
 abbrev pub union-steps : Sheets → Sides → List Step
-union-steps s d = each common (side-lines s (d .front)) ++ (cond (line-left s d) (close (or-newline (ending-of s (d .front))) ∷ (each ours (side-lines s (d .left)) ++ (close (or-newline (ending-of s (d .left))) ∷ each theirs (side-lines s (d .right))))) [] ++ (back-close s d (d .back) ++ each common (side-lines s (d .back))))
+union-steps s d =
+    each common (side-lines s (d .front))
+    ++ (both-steps s (d .front) (d .left) (d .right)
+    ++ (back-close s (d .right) (d .back)
+    ++ each common (side-lines s (d .back))))

@@ -17,7 +17,7 @@ use Rattle.rules.specs.Blocks.{blocked}
 
 -- The verdict.
 abbrev pub marks : modes.Conflict → Sheets → Cluster → Bool
-marks (Keep style n) s k = blocked style s k (sides-in style s k)
+marks (Keep style n) s k = blocked style s (sides-in style s k .left) (sides-in style s k .right)
 marks ResolveWithOurs s k = sides-differ s k
 marks ResolveWithTheirs s k = sides-differ s k
 marks ResolveWithUnion s k = let d = contracted-sides s k in not (same-lines (side-lines s (d .left)) (side-lines s (d .right)))

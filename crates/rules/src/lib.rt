@@ -1,5 +1,6 @@
 pub mod ending;
 pub mod hunk;
+pub mod labels;
 pub mod limits;
 pub mod mode;
 pub mod refusal;
