@@ -27,7 +27,7 @@ use Rattle.rules.specs.Order.{Kept}
 use Rattle.rules.proofs.Contracting.{Sides-lines, sides-lines, nothing-left}
 use Rattle.rules.proofs.Fits.{Fit, kept-fit}
 use Rattle.rules.proofs.Shared.{parts-join, parts-join-other, same-lines-true}
-use Rattle.rules.proofs.Steps.{step-lines, passed, pieces-lines, step-join, each-kept, keep-is}
+use Rattle.rules.proofs.Steps.{step-lines, pieces-lines, step-join, each-kept, keep-is}
 
 none-passed : (a b : Bool) → _≡_ {A = List Line} (cond a [] [] ++ cond b [] []) []
 none-passed true true = refl
@@ -35,57 +35,61 @@ none-passed true false = refl
 none-passed false true = refl
 none-passed false false = refl
 
+-- a block's lines of a side
+abbrev two-passed : (Kind → Bool) → List Line → List Line → List Line
+two-passed f xs ys = cond (f ours) xs [] ++ cond (f theirs) ys []
+
 -- where no line is left, a block would have none
 left-passed : (f : Kind → Bool) (s : Sheets) (d : Sides)
-    → cond (line-left s (d .left) (d .right)) (passed f (side-lines s (d .left)) (side-lines s (d .right))) [] ≡ passed f (side-lines s (d .left)) (side-lines s (d .right))
+    → cond (line-left s (d .left) (d .right)) (two-passed f (side-lines s (d .left)) (side-lines s (d .right))) [] ≡ two-passed f (side-lines s (d .left)) (side-lines s (d .right))
 left-passed f s d = by (line-left s (d .left) (d .right)) refl
   where
-    by : (b : Bool) → line-left s (d .left) (d .right) ≡ b → cond b (passed f (side-lines s (d .left)) (side-lines s (d .right))) [] ≡ passed f (side-lines s (d .left)) (side-lines s (d .right))
+    by : (b : Bool) → line-left s (d .left) (d .right) ≡ b → cond b (two-passed f (side-lines s (d .left)) (side-lines s (d .right))) [] ≡ two-passed f (side-lines s (d .left)) (side-lines s (d .right))
     by true e = refl
     by false e = let n = nothing-left s d e in rw (n .0, n .1) (sym (none-passed (f ours) (f theirs)))
 
 -- of contracted sides
 module _ (s : Sheets) (xs ys : List Line) (d : Sides) (p : Sides-lines s xs ys d) where
-  ours-mid : side-lines s (d .front) ++ (cond (line-left s (d .left) (d .right)) (passed reads-as-ours (side-lines s (d .left)) (side-lines s (d .right))) [] ++ side-lines s (d .back)) ≡ xs
+  ours-mid : side-lines s (d .front) ++ (cond (line-left s (d .left) (d .right)) (two-passed reads-as-ours (side-lines s (d .left)) (side-lines s (d .right))) [] ++ side-lines s (d .back)) ≡ xs
   ours-mid =
       rw (left-passed reads-as-ours s d)
       (ap₂ (λ (u v : List Line). u ++ v) (p .front) (ap₂ (λ (u v : List Line). u ++ v) (append-nil (side-lines s (d .left)) ∙ p .left) (p .back)) ∙ parts-join xs ys)
 
-  theirs-mid : side-lines s (d .front) ++ (cond (line-left s (d .left) (d .right)) (passed reads-as-theirs (side-lines s (d .left)) (side-lines s (d .right))) [] ++ side-lines s (d .back)) ≡ ys
+  theirs-mid : side-lines s (d .front) ++ (cond (line-left s (d .left) (d .right)) (two-passed reads-as-theirs (side-lines s (d .left)) (side-lines s (d .right))) [] ++ side-lines s (d .back)) ≡ ys
   theirs-mid =
       rw (left-passed reads-as-theirs s d)
       (ap₂ (λ (u v : List Line). u ++ v) (p .front) (ap₂ (λ (u v : List Line). u ++ v) (p .right) (p .back)) ∙ parts-join-other xs ys)
 
 -- of whole sides
-ours-whole : (xs ys : List Line) (b : Bool) → cond b (passed reads-as-ours xs ys) xs ++ [] ≡ xs
+ours-whole : (xs ys : List Line) (b : Bool) → cond b (two-passed reads-as-ours xs ys) xs ++ [] ≡ xs
 ours-whole xs ys true = append-nil (xs ++ []) ∙ append-nil xs
 ours-whole xs ys false = append-nil xs
 
-theirs-whole : (xs ys : List Line) (b : Bool) → same-lines xs ys ≡ b → cond (not b) (passed reads-as-theirs xs ys) xs ++ [] ≡ ys
+theirs-whole : (xs ys : List Line) (b : Bool) → same-lines xs ys ≡ b → cond (not b) (two-passed reads-as-theirs xs ys) xs ++ [] ≡ ys
 theirs-whole xs ys true e = append-nil xs ∙ same-lines-true xs ys e
 theirs-whole xs ys false e = append-nil ys
 
 module _ (s : Sheets) (n : ℕ) (l : Labels) (since : ℕ) (k : Cluster) (fit : Fit s k) where
   ours-kept : (st : ConflictStyle) → step-lines reads-as-ours (keep-steps st s n l since (from k) (to k) (sides-in st s k)) ≡ ours-lines s k
   ours-kept Merge =
-      keep-is reads-as-ours refl refl refl Merge s n l since k (contracted-sides s k)
+      keep-is reads-as-ours refl refl Merge s n l since k (contracted-sides s k)
       ∙ ours-mid s (ours-lines s k) (theirs-lines s k) (contracted-sides s k) (sides-lines s k (fit .ours) (fit .theirs))
   ours-kept Diff3 =
-      keep-is reads-as-ours refl refl refl Diff3 s n l since k (whole-sides k)
+      keep-is reads-as-ours refl refl Diff3 s n l since k (whole-sides k)
       ∙ ours-whole (ours-lines s k) (theirs-lines s k) (sides-differ s k)
   ours-kept ZealousDiff3 =
-      keep-is reads-as-ours refl refl refl ZealousDiff3 s n l since k (contracted-sides s k)
+      keep-is reads-as-ours refl refl ZealousDiff3 s n l since k (contracted-sides s k)
       ∙ ours-mid s (ours-lines s k) (theirs-lines s k) (contracted-sides s k) (sides-lines s k (fit .ours) (fit .theirs))
 
   theirs-kept : (st : ConflictStyle) → step-lines reads-as-theirs (keep-steps st s n l since (from k) (to k) (sides-in st s k)) ≡ theirs-lines s k
   theirs-kept Merge =
-      keep-is reads-as-theirs refl refl refl Merge s n l since k (contracted-sides s k)
+      keep-is reads-as-theirs refl refl Merge s n l since k (contracted-sides s k)
       ∙ theirs-mid s (ours-lines s k) (theirs-lines s k) (contracted-sides s k) (sides-lines s k (fit .ours) (fit .theirs))
   theirs-kept Diff3 =
-      keep-is reads-as-theirs refl refl refl Diff3 s n l since k (whole-sides k)
+      keep-is reads-as-theirs refl refl Diff3 s n l since k (whole-sides k)
       ∙ theirs-whole (ours-lines s k) (theirs-lines s k) (same-lines (ours-lines s k) (theirs-lines s k)) refl
   theirs-kept ZealousDiff3 =
-      keep-is reads-as-theirs refl refl refl ZealousDiff3 s n l since k (contracted-sides s k)
+      keep-is reads-as-theirs refl refl ZealousDiff3 s n l since k (contracted-sides s k)
       ∙ theirs-mid s (ours-lines s k) (theirs-lines s k) (contracted-sides s k) (sides-lines s k (fit .ours) (fit .theirs))
 
 -- two modes whose groups give the same lines give the same lines
