@@ -11,6 +11,7 @@ use Rattle.rules.specs.Order.{Kept}
 use Rattle.rules.specs.OutlineLaws.{Outline-laws}
 use Rattle.rules.specs.Agreement.{Own-laws, Units-agree, Laws}
 use Rattle.rules.proofs.Chains.{groups-are-chains}
+use Rattle.rules.proofs.HunkWords.{hunk-laws}
 use Rattle.rules.proofs.Marked.{marker-laws}
 use Rattle.rules.proofs.Mirror.{same-outline, same-verdict}
 use Rattle.rules.proofs.Outlines.{outlined}
@@ -49,6 +50,7 @@ outline-laws s cs os p =
 
 pub laws : (s : Sheets) (cs os : List Hunk) → Kept s cs os → Laws s cs os
 laws s cs os p = record {
+  hunks = hunk-laws s;
   touch = touch-law;
   walked = walked s cs os p;
   own = own-laws s cs os p;

@@ -28,6 +28,7 @@ use Rattle.rules.specs.ContractionLaws.{Contraction-law}
 use Rattle.rules.specs.SideLaws.{union-lines, with-groups, Side-laws}
 use Rattle.rules.proofs.Contracting.{Sides-lines, sides-lines, nothing-left}
 use Rattle.rules.proofs.Fits.{Fit, kept-fit}
+use Rattle.rules.proofs.HunkCuts.{Led, led-cuts}
 use Rattle.rules.proofs.Longest.{start-stops, end-stops, rest-joins, rest-joins-other, Kinds, kinds}
 use Rattle.rules.proofs.Shared.{front-same, equal-middle, parts-join, parts-join-other, same-lines-true, same-lines-refl}
 use Rattle.rules.proofs.Spelled.{Written, written, all-given}
@@ -43,10 +44,10 @@ same-middle : (xs ys : List Line) → middle xs ys ≡ middle ys xs → xs ≡ y
 same-middle xs ys e = sym (parts-join xs ys) ∙ ap (λ (m : List Line). shared-start xs ys ++ (m ++ shared-end xs ys)) e ∙ parts-join-other xs ys
 
 pub contraction-law : (s : Sheets) (k : Cluster) → Fit s k → Contraction-law s k (contracted-sides s k)
-contraction-law s k fit = by (contracted-sides s k) (sides-lines s k (fit .ours) (fit .theirs)) (kinds s k (fit .lead))
+contraction-law s k fit = by (contracted-sides s k) (sides-lines s k (fit .ours) (fit .theirs)) (kinds s k (fit .lead)) (led-cuts s k (is-current (k .first .side)) (fit .ours) (fit .theirs))
   where
-    by : (d : Sides) → Sides-lines s (ours-lines s k) (theirs-lines s k) d → Kinds (k .first .side) d → Contraction-law s k d
-    by d p q =
+    by : (d : Sides) → Sides-lines s (ours-lines s k) (theirs-lines s k) d → Kinds (k .first .side) d → Led s k (is-current (k .first .side)) d → Contraction-law s k d
+    by d p q c =
         let xs = ours-lines s k in
         let ys = theirs-lines s k in
         record {
@@ -64,6 +65,8 @@ contraction-law s k fit = by (contracted-sides s k) (sides-lines s k (fit .ours)
           ours-left = q .ours-left;
           theirs-left = q .theirs-left;
           straight = q .straight;
+          ours-lead = λ e. c .ours (ap is-current e);
+          theirs-lead = λ e. c .theirs (ap is-current e);
         }
 
 -- Union's mark

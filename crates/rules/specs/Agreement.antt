@@ -17,6 +17,7 @@ use Rattle.rules.specs.Outline.{reads-as-ours, reads-as-theirs, lines-kept, al
 use Rattle.rules.specs.PutIn.{put-in}
 use Rattle.rules.specs.Exchange.{exchanged-item, exchanged-hunk, exchanged-sheets}
 use Rattle.rules.specs.Order.{Kept}
+use Rattle.rules.specs.HunkLaws.{Hunk-laws}
 use Rattle.rules.specs.WalkLaws.{Touch-law, Walked}
 use Rattle.rules.specs.GroupLaws.{Groups-are-chains, Range-laws}
 use Rattle.rules.specs.EndingLaws.{Ending-laws}
@@ -41,6 +42,7 @@ pub record Own-laws (s : Sheets) (cs os : List Hunk) : Type 0 where
 
 -- All of them.
 pub record Laws (s : Sheets) (cs os : List Hunk) : Type 0 where
+  pub hunks : Hunk-laws s
   pub touch : Touch-law
   pub walked : Walked cs os
   pub own : Own-laws s cs os

@@ -1,4 +1,5 @@
 -- The laws of line endings.
+use Rattle.rules.specs.Filling.{stretch}
 use Prim.Native.Nat.{ℕ, _-_, _≤_, _<_}
 use mathlib.Core.Path.{_≡_}
 use mathlib.Core.List.{List, [], _∷_, _++_}
@@ -26,3 +27,6 @@ pub record Ending-laws (s : Sheets) : Type 0 where
       → ((d ≡ 13 → ending-before ls b ≡ Some ReturnNewline) × ((d ≡ 13 → ⊥) → ending-before ls b ≡ Some Newline))
   pub short-before : (ls : List Line) (b : ℕ) (xs : List ℕ) (c z : ℕ) → getD ls (b - 1) [] ≡ xs ++ (c ∷ []) → (c ≡ 10 → ⊥) → getD ls (b - 2) [] ≡ z ∷ [] → ending-before ls b ≡ None
   pub first-line : (ls : List Line) (xs : List ℕ) (c : ℕ) → getD ls 0 [] ≡ xs ++ (c ∷ []) → (c ≡ 10 → ⊥) → ending-before ls 1 ≡ None
+  -- a stretch of the ancestor shows the ending of its last line, and none where it is empty
+  pub of-stretch : (a b : ℕ) → a < b → ending-of s (stretch a b) ≡ ending-before (s .ancestor) b
+  pub no-stretch : (a b : ℕ) → b ≤ a → ending-of s (stretch a b) ≡ None

@@ -1,7 +1,7 @@
 -- The laws of groups: they are the chains of touching hunks, and lie apart in the ancestor.
 use Prim.Native.Nat.{_≤_, _<_}
 use mathlib.Core.Path.{_≡_}
-use mathlib.Core.Bool.{false}
+use mathlib.Core.Bool.{false, true}
 use mathlib.Core.List.{List, [], _∷_, _++_, map, List·Memᴰ}
 use lib.Dec.{T}
 use Rattle.std.specs.shelf.Lists.{All}
@@ -29,6 +29,10 @@ pub record Groups-are-chains (hs : List Hunk) : Type 0 where
   pub chained : (k : Cluster) → List·Memᴰ k (clusters hs) → (g h : Hunk) → List·Memᴰ g (members k) → List·Memᴰ h (members k) → Chain hs g h
   pub apart : (k : Cluster) → List·Memᴰ k (clusters hs) → (g h : Hunk) → List·Memᴰ g (members k) → List·Memᴰ h hs → T (touches g h) → List·Memᴰ h (members k)
   pub stays : (k : Cluster) → List·Memᴰ k (clusters hs) → (g h : Hunk) → List·Memᴰ g (members k) → Chain hs g h → List·Memᴰ h (members k)
+  -- a group has more hunks than one; a lone hunk touches none
+  pub group : (k : Cluster) → is-group k ≡ true → (g h : Hunk) × (more : List Hunk) × (members k ≡ g ∷ (h ∷ more))
+  pub alone : (k : Cluster) → is-group k ≡ false → members k ≡ k .first ∷ []
+  pub lone : (k : Cluster) → List·Memᴰ k (clusters hs) → is-group k ≡ false → (h : Hunk) → List·Memᴰ h hs → T (touches (k .first) h) → ⊥
 
 -- A cluster's range runs from the least before.start of its hunks to the greatest before.end.
 pub record Range (k : Cluster) : Type 0 where

@@ -26,6 +26,7 @@ pub mod GroupOutline
 pub mod PutIn
 pub mod Exchange
 pub mod Order
+pub mod HunkLaws
 pub mod WalkLaws
 pub mod GroupLaws
 pub mod ContractionLaws

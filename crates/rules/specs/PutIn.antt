@@ -10,3 +10,8 @@ use Rattle.rules.specs.Hunks.{Sheets, hunk-lines}
 abbrev pub put-in : Sheets → ℕ → List Hunk → List Line
 put-in s n [] = drop n (s .ancestor)
 put-in s n (h ∷ hs) = between (s .ancestor) n (h .before .start) ++ (hunk-lines s h ++ put-in s (h .before .end) hs)
+
+-- The same of the ancestor's lines a..b alone.
+abbrev pub put-between : Sheets → ℕ → ℕ → List Hunk → List Line
+put-between s a b [] = between (s .ancestor) a b
+put-between s a b (h ∷ hs) = between (s .ancestor) a (h .before .start) ++ (hunk-lines s h ++ put-between s (h .before .end) b hs)
