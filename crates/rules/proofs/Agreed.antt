@@ -20,6 +20,7 @@ use Rattle.rules.proofs.Shown.{ending-laws}
 use Rattle.rules.proofs.SidePart.{ours-part, theirs-part}
 use Rattle.rules.proofs.Spelled.{ours-spelled, theirs-spelled, every-spelled, some-block}
 use Rattle.rules.proofs.Texts.{ours-put-in, theirs-put-in}
+use Rattle.rules.proofs.UnionForm.{union-law}
 use Rattle.rules.proofs.Unions.{ours-written, theirs-written, side-laws}
 use Rattle.rules.proofs.Verdicts.{keep-verdict, ours-verdict, theirs-verdict}
 use Rattle.rules.proofs.Walks.{walked, touch-law}
@@ -59,6 +60,7 @@ laws s cs os p = record {
   ranges = range-laws s cs os p;
   sides = side-laws s cs os p;
   markers = marker-laws s cs os p;
+  union = union-law s cs os p;
   endings = ending-laws s;
 }
 

@@ -1,28 +1,28 @@
 -- Contraction on hunks: whole hunks leave, and one hunk is cut in its place.
 use mathlib.Core.Logic.{_⊎_, inl, inr}
-use Rattle.rules.specs.Filling.{ours-of, theirs-of}
-use Rattle.rules.specs.Sides.{Sides, contracted-by}
-use Rattle.rules.specs.Groups.{Cluster}
-use Rattle.rules.specs.SharedLines.{shared-front, shared-back}
-use Rattle.rules.specs.Lines.{Line}
-use Rattle.rules.specs.Hunks.{Sheets, side-lines, hunk-lines}
-use Rattle.rules.specs.ContractionLaws.{Parted, Parts, Cut-in-two, Has-line, Cuts, Parts-by, between-hunks, Facing-cuts, within-hunk}
-use Prim.Native.Nat.{ℕ, suc, _+_, _-_, _≤_, _<_}
+use Prim.Native.Nat.{ℕ, _+_, _-_, _≤_, _<_}
 use native.Mathlib.Omega.{arith}
 use mathlib.Core.Path.{_≡_, refl, sym, ap, ap₂, subst, _∙_}
-use mathlib.Core.Bool.{Bool, true, false, cond, _&&_, not}
-use mathlib.Core.List.{List, [], _∷_, _++_, reverse}
-use lib.ListN.{length, take, length-append, length-reverse}
+use mathlib.Core.Bool.{Bool, true, false, _&&_, not}
+use mathlib.Core.List.{List, [], _∷_, _++_}
+use lib.ListN.{length, length-append}
 use lib.Dec.{leb, eqb}
 use Rattle.std.proofs.shelf.Tests.{leb-true, leb-false, eqb-true, and-parts, and-cases, not-true, not-false, cond-both, false≢true, true≢false}
 use Rattle.std.specs.shelf.Lists.{All}
+use Rattle.rules.specs.declared.hunk.Hunk.{Hunk}
 use Rattle.rules.specs.declared.hunk.Side.{Side}
 use Rattle.rules.specs.declared.hunk.Side.the-variants.{Current, Other, Ancestor}
 use Rattle.rules.specs.declared.hunk.Span.{Span}
-use Rattle.rules.specs.declared.hunk.Hunk.{Hunk}
-use Rattle.rules.specs.Contraction.{Cut, size, reading, trimmed, contracted, read-range, first-lines, cut-here, cut-front, cut-back, later-lines, ahead-more}
-use Rattle.rules.proofs.Shared.{front-take, front-le, back-drop}
+use Rattle.rules.specs.Lines.{Line}
+use Rattle.rules.specs.SharedLines.{shared-front, shared-back}
+use Rattle.rules.specs.Hunks.{Sheets, side-lines, hunk-lines}
+use Rattle.rules.specs.Groups.{Cluster}
+use Rattle.rules.specs.Filling.{ours-of, theirs-of}
+use Rattle.rules.specs.Contraction.{Cut, size, reading, contracted, read-range, first-lines, cut-here, cut-front, cut-back, later-lines, ahead-more}
+use Rattle.rules.specs.Sides.{Sides, contracted-by}
+use Rattle.rules.specs.ContractionLaws.{Parted, Parts, Cut-in-two, Has-line, Cuts, Parts-by, between-hunks, Facing-cuts, within-hunk}
 use Rattle.rules.proofs.Cuts.{Whole, front-splits, back-splits}
+use Rattle.rules.proofs.Shared.{front-take, front-le, back-drop}
 
 -- a hunk's two parts
 parted : (r : Span) (n : ℕ) → 0 < n → n < r .end - r .start → Parted r (record { start = r .start; end = r .start + n }) (record { start = r .start + n; end = r .end })
@@ -234,6 +234,9 @@ module _ (s : Sheets) (a b : List Hunk) (wa : All (Whole s) a) (wb : All (Whole 
       let e = sizes-lines s a wa in
       side-cuts n (length (side-lines s ra) - m) a (omega arith)
 
+  back-whole : All (Whole s) (contracted s a b .back)
+  back-whole = back-splits s (length (side-lines s ra) - m) ra (front-splits s n a wa .behind-whole) .behind-whole
+
   facing-cuts : Facing-cuts s b (contracted s a b .front) (contracted s a b .facing) (contracted s a b .back)
   facing-cuts =
       let p = front-le xs ys .1 in
@@ -256,13 +259,32 @@ module _ (s : Sheets) (a b : List Hunk) (wa : All (Whole s) a) (wb : All (Whole 
 pub record Led (s : Sheets) (k : Cluster) (b : Bool) (d : Sides) : Type 0 where
   pub ours : b ≡ true → Cuts (ours-of k) (d .front) (d .left) (d .back) × Facing-cuts s (theirs-of k) (d .front) (d .right) (d .back)
   pub theirs : b ≡ false → Cuts (theirs-of k) (d .front) (d .right) (d .back) × Facing-cuts s (ours-of k) (d .front) (d .left) (d .back)
+  pub begins : (h : Hunk) (ys : List Hunk) → d .back ≡ h ∷ ys → Has-line h
+  pub whole : All (Whole s) (d .back)
 
 pub led-cuts : (s : Sheets) (k : Cluster) (b : Bool) → All (Whole s) (ours-of k) → All (Whole s) (theirs-of k) → Led s k b (contracted-by s b k)
 led-cuts s k true wo wt = record {
   ours = λ _. (lead-cuts s (ours-of k) (theirs-of k) wo wt, facing-cuts s (ours-of k) (theirs-of k) wo wt);
   theirs = λ e. absurd (true≢false e);
+  begins = lead-cuts s (ours-of k) (theirs-of k) wo wt .back-begins;
+  whole = back-whole s (ours-of k) (theirs-of k) wo wt;
 }
 led-cuts s k false wo wt = record {
   ours = λ e. absurd (false≢true e);
   theirs = λ _. (lead-cuts s (theirs-of k) (ours-of k) wt wo, facing-cuts s (theirs-of k) (ours-of k) wt wo);
+  begins = lead-cuts s (theirs-of k) (ours-of k) wt wo .back-begins;
+  whole = back-whole s (theirs-of k) (ours-of k) wt wo;
 }
+
+-- a back without lines is none at all
+no-lines-there : (s : Sheets) (hs : List Hunk) → All (Whole s) hs → ((h : Hunk) (ys : List Hunk) → hs ≡ h ∷ ys → Has-line h) → side-lines s hs ≡ [] → hs ≡ []
+no-lines-there s [] w f e = refl
+no-lines-there s (h ∷ hs) w f e =
+    let p : Has-line h = f h hs refl in
+    let n = ap length e ∙ refl in
+    let q = length-append (hunk-lines s h) (side-lines s hs) in
+    let x : length (hunk-lines s h) ≡ size h = w .0 in
+    absurd (omega arith)
+
+pub no-back-left : (s : Sheets) (k : Cluster) (b : Bool) (d : Sides) → Led s k b d → side-lines s (d .back) ≡ [] → d .back ≡ []
+no-back-left s k b d r e = no-lines-there s (d .back) (r .whole) (r .begins) e

@@ -22,6 +22,7 @@ use Rattle.rules.specs.WalkLaws.{Touch-law, Walked}
 use Rattle.rules.specs.GroupLaws.{Groups-are-chains, Range-laws}
 use Rattle.rules.specs.EndingLaws.{Ending-laws}
 use Rattle.rules.specs.MarkerLaws.{Marker-laws}
+use Rattle.rules.specs.UnionLaws.{Union-law}
 use Rattle.rules.specs.SideLaws.{Side-laws}
 use Rattle.rules.specs.OutlineLaws.{Outline-laws}
 use Rattle.rules.specs.VerdictLaws.{some-group-differs, Verdict-laws}
@@ -51,6 +52,7 @@ pub record Laws (s : Sheets) (cs os : List Hunk) : Type 0 where
   pub ranges : Range-laws cs os
   pub sides : Side-laws s cs os
   pub markers : Marker-laws s cs os
+  pub union : Union-law s cs os
   pub endings : Ending-laws s
 
 -- What two units show alike, the second with the sheets of current and other exchanged: in one style, any marker sizes and labels,
