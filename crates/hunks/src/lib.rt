@@ -1,0 +1,3 @@
+//! The hunks held of two sheets against their ancestor.
+
+pub mod list;
