@@ -3,6 +3,9 @@ use Prim.Native.Nat.{ℕ, _+_}
 use mathlib.Core.Path.{_≡_, _∙_}
 use mathlib.Core.Bool.{cond}
 use mathlib.Core.List.{List, [], _∷_, _++_}
+use denote.Ref.{RefT, now}
+use Rattle.std.specs.declared.option.Option.{Option}
+use Rattle.std.specs.declared.option.Option.the-variants.{Some, None}
 use lib.Dec.{leb, ltb}
 use lib.ListN.{length, take, set, length-set}
 use Rattle.rules.specs.declared.hunk.Side.the-variants.{Current}
@@ -28,3 +31,8 @@ with-hunk l i w = record { items = set (l .items) i w; len = l .len; fits = (l .
 -- What stands for a hunk where there is none.
 abbrev pub no-hunk : Hunk
 no-hunk = record { before = record { start = 0; end = 0 }; after = record { start = 0; end = 0 }; side = Current }
+
+-- The hunk that a reference points to, if one was lent.
+abbrev pub pointed : Option (RefT Hunk) → Option Hunk
+pointed None = None
+pointed (Some r) = Some (now r)

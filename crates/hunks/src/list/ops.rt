@@ -1,9 +1,10 @@
 ghost use Prim.Native.Nat.{ℕ, _+_, _-_, _<_, _≤_};
-ghost use Rattle.hunks.specs.Lists.{held, pushed, pushed-all, no-hunk, with-hunk};
+ghost use Rattle.hunks.specs.Lists.{held, pushed, pushed-all, no-hunk, pointed, with-hunk};
 ghost use Rattle.hunks.specs.contracts.list.HunkList.{the-row as list-row};
 ghost use Rattle.rules.specs.contracts.hunk.Hunk.{the-row as hunk-row};
 ghost use Rattle.std.specs.shelf.Maps.{nth};
-ghost use denote.Follow.{follows};
+ghost use denote.Follow.{follows-if};
+ghost use Rattle.std.specs.Changed.{nameOf};
 ghost use denote.Ref.{name};
 ghost use ghost.Atoms.{sem};
 ghost use lib.Dec.{leb, ltb};
@@ -135,11 +136,14 @@ impl<const N: usize> HunkList<N> {
         self.len = left;
     }
 
-    /// Lends hunk i; the others stay.
-    pub fn lend(&mut self, i: usize) -> &mut Hunk
-        requires { ⌜ i < length (held (now self)) ⌝ }
-        ensures { λ r. sem 𝓤 H A (follows (list-row N·row) hunk-row (name (self .entry)) (name r) (λ w. with-hunk (now (self .entry)) i w)) ∗ ⌜ now r ≡ getD (held (now (self .entry))) i no-hunk ⌝ }
+    /// Lends hunk i, or nothing past the last; the others stay.
+    pub fn lend(&mut self, i: usize) -> Option<&mut Hunk>
+        ensures { λ r. sem 𝓤 H A (follows-if (list-row N·row) hunk-row (name (self .entry)) (nameOf r) (λ w. with-hunk (now (self .entry)) i w) (now (self .entry))) ∗ ⌜ pointed r ≡ nth (held (now (self .entry))) i ⌝ }
     {
-        &mut self.items[i]
+        if i < self.len {
+            Some(&mut self.items[i])
+        } else {
+            None
+        }
     }
 }
