@@ -13,7 +13,10 @@ pub mod Outline
 pub mod Grouping
 pub mod Runs
 pub mod Laws
+pub mod Questions
+pub mod Refusals
 pub mod Tables
+pub mod TableLaws
 pub mod Renders
 pub mod Markers
 pub mod Lengths

@@ -12,7 +12,12 @@ use Rattle.rules.specs.Pieces.{Chunk}
 use Rattle.rules.specs.Agreement.{facing-side, exchanged-hunk, exchanged-sheets, Alike}
 use Rattle.rules.specs.Laws.{Laws}
 use Rattle.rules.specs.Lengths.{Length-law}
-use Rattle.rules.specs.Tables.{Held, new-table, Answer, judged, open-after, enter-after, enter-answer, withdraw-after, withdraw-answer, Table-rules, Table-keeps}
+use Rattle.std.specs.declared.result.Result.{Result}
+use Rattle.std.specs.declared.result.Result.the-variants.{Ok}
+use Rattle.rules.specs.declared.refusal.TableRefusal.{TableRefusal}
+use Rattle.rules.specs.Limits.{max-lines}
+use Rattle.rules.specs.Tables.{Held, new-table, open-after, enter-after, enter-answer, withdraw-after, withdraw-answer}
+use Rattle.rules.specs.TableLaws.{Table-rules, Table-keeps, Keeps-law}
 use Rattle.rules.specs.Renders.{Asked, render-answer, Counted, Render-rules}
 
 -- A call. A render is of any three sheets, and leaves the table as it is.
@@ -50,13 +55,13 @@ No-opening (withdraw side) = Unit {0}
 No-opening (render s a) = Unit {0}
 
 pub record Few-lines (s : Sheets) : Type 0 where
-  pub ancestor : length (s .ancestor) ≤ 4096
-  pub current : length (s .current) ≤ 4096
-  pub other : length (s .other) ≤ 4096
+  pub ancestor : length (s .ancestor) ≤ max-lines
+  pub current : length (s .current) ≤ max-lines
+  pub other : length (s .other) ≤ max-lines
 
 -- The second table holds the first one's hunks, sides exchanged.
 abbrev pub Holds-exchanged : Held → Held → Type 0
-Holds-exchanged t t′ = (t′ .cs ≡ map exchanged-hunk (t .os)) × (t′ .os ≡ map exchanged-hunk (t .cs))
+Holds-exchanged t t′ = (t′ .current ≡ map exchanged-hunk (t .other)) × (t′ .other ≡ map exchanged-hunk (t .current))
 
 -- The same calls, sides exchanged. Given them, the second handheld answers each enter and withdrawal as the first, and holds the same hunks, sides exchanged.
 abbrev pub exchanged-call : Call → Call
@@ -65,7 +70,7 @@ exchanged-call (enter h) = enter (exchanged-hunk h)
 exchanged-call (withdraw side) = withdraw (facing-side side)
 exchanged-call (render s a) = render (exchanged-sheets s) a
 
-abbrev pub answers : Held → List Call → List Answer
+abbrev pub answers : Held → List Call → List (Result ℕ TableRefusal)
 answers t [] = []
 answers t (open-with a c o ∷ xs) = answers (open-after t a c o) xs
 answers t (enter h ∷ xs) = enter-answer t h ∷ answers (enter-after t h) xs
@@ -90,18 +95,19 @@ pub record Call-laws (xs : List Call) : Type 0 where
 -- Two handhelds, the second with the sheets of current and other exchanged.
 pub record Agreement-after (s : Sheets) (t t′ : Held) : Type 0 where
   -- what holds of each one's renderings
-  pub first : Laws s (t .cs) (t .os)
-  pub second : Laws (exchanged-sheets s) (t′ .cs) (t′ .os)
-  pub first-short : Length-law s (t .cs) (t .os)
-  pub second-short : Length-law (exchanged-sheets s) (t′ .cs) (t′ .os)
+  pub first : Laws s (t .current) (t .other)
+  pub second : Laws (exchanged-sheets s) (t′ .current) (t′ .other)
+  pub first-short : Length-law s (t .current) (t .other)
+  pub second-short : Length-law (exchanged-sheets s) (t′ .current) (t′ .other)
   -- whenever they hold the same hunks, sides exchanged, they show the same
-  pub alike : Holds-exchanged t t′ → Alike s (t .cs) (t .os) (t′ .cs) (t′ .os)
+  pub alike : Holds-exchanged t t′ → Alike s (t .current) (t .other) (t′ .current) (t′ .other)
 
 -- Over runs from a new table, of any calls, accepted or refused; a front of a run is a run, so all this holds after each call. The two handhelds
 -- have sinks of their own: values of V and of V′, each with a rule for one more piece and a fresh value.
 pub record Agreement-over-runs (V : Type 0) (rule : V → Chunk → V) (fresh : V) (V′ : Type 0) (rule′ : V′ → Chunk → V′) (fresh′ : V′) : Type 0 where
   -- the table: what it keeps, and what its calls answer and leave
   pub keeps : (xs : List Call) → Table-keeps (after-run xs)
+  pub keeps-test : Keeps-law
   pub rules : (xs : List Call) → Table-rules (after-run xs)
   pub calls : (xs : List Call) → Call-laws xs
   pub same-calls : (xs : List Call) → Same-calls xs
@@ -110,7 +116,7 @@ pub record Agreement-over-runs (V : Type 0) (rule : V → Chunk → V) (fresh : 
   pub renders′ : (xs : List Call) (s : Sheets) → Render-rules V′ rule′ fresh′ (after-run xs) s
   -- a table has the counts of the sheets whenever it was opened with them and not again since, and whenever a render of them is accepted
   pub since-opening : (s : Sheets) (xs ys : List Call) → Few-lines s → All No-opening ys → Counted s (after-run (xs ++ (opening s ∷ ys)))
-  pub when-accepted : (s : Sheets) (xs : List Call) (a : Asked) (v : Resolution) → render-answer (after-run xs) s a ≡ judged v → Counted s (after-run xs)
+  pub when-accepted : (s : Sheets) (xs : List Call) (a : Asked) (v : Resolution) → render-answer (after-run xs) s a ≡ Ok v → Counted s (after-run xs)
   -- two handhelds whose tables have the counts of their sheets, each after a run of its own
   pub agree : (s : Sheets) (xs ys : List Call) → Counted s (after-run xs) → Counted (exchanged-sheets s) (after-run ys) → Agreement-after s (after-run xs) (after-run ys)
 

@@ -15,7 +15,7 @@ ghost use Rattle.rules.specs.Cases.{Cases};
 ghost use Rattle.rules.specs.Grouping.{Exchange-keeps-groups};
 ghost use Rattle.rules.specs.Outline.{Outlined};
 ghost use Rattle.rules.specs.Runs.{Tables-keep, Same-calls-same-hunks, Agreement-over-runs, Handhelds-agree-over-runs};
-ghost use Rattle.rules.specs.Tables.{Tables-follow-rules};
+ghost use Rattle.rules.specs.TableLaws.{Tables-follow-rules};
 
 /// The worked cases come out as stated.
 pub fn cases_stand() -> u8
