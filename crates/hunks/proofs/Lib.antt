@@ -1,2 +1,3 @@
 pub mod Helds
+pub mod Keeping
 pub mod Shifting

@@ -1,6 +1,7 @@
 ghost use Prim.Native.Nat.{ℕ, _+_, _-_, _<_, _≤_};
 ghost use Rattle.hunks.specs.Lists.{held, pushed, pushed-all, no-hunk, pointed, with-hunk};
 ghost use Rattle.hunks.specs.contracts.list.HunkList.{the-row as list-row};
+ghost use Rattle.rules.specs.Tables.{last-of, without-last};
 ghost use Rattle.rules.specs.contracts.hunk.Hunk.{the-row as hunk-row};
 ghost use Rattle.std.specs.shelf.Maps.{nth};
 ghost use denote.Follow.{follows-if};
@@ -57,7 +58,7 @@ impl<const N: usize> HunkList<N> {
 
     /// The last hunk, or nothing of an empty list.
     pub fn last(&self) -> Option<Hunk>
-        ensures { λ r. ⌜ r ≡ nth (held (now (self .entry))) (length (held (now (self .entry))) - 1) ⌝ }
+        ensures { λ r. ⌜ r ≡ last-of (held (now (self .entry))) ⌝ }
     {
         if self.len == 0 {
             None
@@ -92,8 +93,8 @@ impl<const N: usize> HunkList<N> {
 
     /// Takes the last hunk out, or nothing of an empty list.
     pub fn pop(&mut self) -> Option<Hunk>
-        ensures answer { λ r. ⌜ r ≡ nth (held (now (self .entry))) (length (held (now (self .entry))) - 1) ⌝ }
-        ensures after { λ _. ⌜ held (now (self .exit)) ≡ take (length (held (now (self .entry))) - 1) (held (now (self .entry))) ⌝ }
+        ensures answer { λ r. ⌜ r ≡ last-of (held (now (self .entry))) ⌝ }
+        ensures after { λ _. ⌜ held (now (self .exit)) ≡ without-last (held (now (self .entry))) ⌝ }
     {
         let last = self.last();
         if self.len > 0 {
