@@ -1,3 +1,4 @@
+-- What lists of hunks hold, over the places of an array.
 use Prim.Native.Nat.{ℕ, zero, suc, _+_, _-_, _≤_, _<_, min}
 use mathlib.Core.Path.{_≡_, refl, sym, _∙_, ap}
 use mathlib.Core.List.{List, [], _∷_, _++_}
@@ -9,11 +10,16 @@ use Rattle.std.proofs.shelf.Maps.{nth-getD, nth-past}
 use Rattle.std.specs.shelf.Maps.{nth}
 use Rattle.std.specs.declared.option.Option.{Option}
 use Rattle.std.specs.declared.option.Option.the-variants.{Some, None}
+use Rattle.rules.specs.declared.hunk.Side.the-variants.{Current}
 use Rattle.rules.specs.declared.hunk.Hunk.{Hunk}
 use Rattle.hunks.specs.declared.list.HunkList.{HunkList}
 use lib.Dec.{leb, ltb}
 use Rattle.std.proofs.shelf.Tests.{cases-lt, lt-ltb, le-ltb, le-leb, lt-leb, cond-true, cond-false}
 use Rattle.hunks.specs.Lists.{held, pushed, pushed-all}
+
+-- what stands for a hunk where there is none
+abbrev pub no-hunk : Hunk
+no-hunk = record { before = record { start = 0; end = 0 }; after = record { start = 0; end = 0 }; side = Current }
 
 pub held-length : {N : ℕ} → (l : HunkList N) → length (held l) ≡ l .len
 held-length l = length-take-le (l .len) (l .items) (omega (arith, l .fits .0, l .fits .1))
@@ -34,11 +40,6 @@ take-set-in zero xs i x = refl
 take-set-in (suc n) [] i x = refl
 take-set-in (suc n) (y ∷ ys) zero x = refl
 take-set-in (suc n) (y ∷ ys) (suc i) x = ap (λ zs. y ∷ zs) (take-set-in n ys i x)
-
--- the last of the first n
-pub take-nth-last : {X : Type 0} → (n : ℕ) (xs : List X) (d : X) → 0 < n → n ≤ length xs → nth (take n xs) (length (take n xs) - 1) ≡ Some (getD xs (n - 1) d)
-take-nth-last n xs d h k =
-    ap (λ m. nth (take n xs) (m - 1)) (length-take-le n xs k) ∙ take-nth n xs (n - 1) d (omega arith) k
 
 -- a hunk has a place, or the list is full
 pub pushed-room : (n : ℕ) (hs : List Hunk) (h : Hunk) → length hs < n → pushed n hs h ≡ hs ++ (h ∷ [])

@@ -1,3 +1,4 @@
 pub mod Helds
-pub mod Keeping
 pub mod Shifting
+pub mod Entering
+pub mod Keeping

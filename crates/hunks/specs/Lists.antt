@@ -8,7 +8,6 @@ use Rattle.std.specs.declared.option.Option.{Option}
 use Rattle.std.specs.declared.option.Option.the-variants.{Some, None}
 use lib.Dec.{leb, ltb}
 use lib.ListN.{length, take, set, length-set}
-use Rattle.rules.specs.declared.hunk.Side.the-variants.{Current}
 use Rattle.rules.specs.declared.hunk.Hunk.{Hunk}
 use Rattle.hunks.specs.declared.list.HunkList.{HunkList}
 
@@ -27,10 +26,6 @@ pushed-all n hs gs = cond (leb (length hs + length gs) n) (hs ++ gs) hs
 -- The list with another hunk in place i.
 abbrev pub with-hunk : {N : ℕ} → HunkList N → ℕ → Hunk → HunkList N
 with-hunk l i w = record { items = set (l .items) i w; len = l .len; fits = (l .fits .0, length-set (l .items) i w ∙ l .fits .1) }
-
--- What stands for a hunk where there is none.
-abbrev pub no-hunk : Hunk
-no-hunk = record { before = record { start = 0; end = 0 }; after = record { start = 0; end = 0 }; side = Current }
 
 -- The hunk that a reference points to, if one was lent.
 abbrev pub pointed : Option (RefT Hunk) → Option Hunk

@@ -6,6 +6,7 @@ use rules::refusal::HunkRange;
 use rules::refusal::Layer;
 use rules::refusal::TableRefusal;
 
+/// The number of the question whose answer was no.
 pub fn number(refusal: TableRefusal) -> u8
     ensures { λ r. ⌜ r ≡ table-number refusal ⌝ }
 {
@@ -20,32 +21,33 @@ pub fn number(refusal: TableRefusal) -> u8
     }
 }
 
+/// The layer that refused.
 pub fn layer(refusal: TableRefusal) -> Layer
     ensures { λ r. ⌜ r ≡ table-layer refusal ⌝ }
 {
     match refusal {
-        TableRefusal::CountTooLarge(_) => Layer::Table,
-        TableRefusal::NoHunksOfSide => Layer::Table,
-        TableRefusal::SideFull => Layer::Table,
-        TableRefusal::RangeOutside(_) => Layer::Table,
-        TableRefusal::HunkEmpty => Layer::Table,
-        TableRefusal::NotBehindLast => Layer::Table,
-        TableRefusal::NothingHeld => Layer::Table,
+        TableRefusal::CountTooLarge(_)
+        | TableRefusal::NoHunksOfSide
+        | TableRefusal::SideFull
+        | TableRefusal::RangeOutside(_)
+        | TableRefusal::HunkEmpty
+        | TableRefusal::NotBehindLast
+        | TableRefusal::NothingHeld => Layer::Table,
     }
 }
 
-/// The place of the first that fails, 0 where the refusal names none.
+/// The place of the first that failed: of a sheet, or of a hunk's range, and 0 where there is but one.
 pub fn place(refusal: TableRefusal) -> u32
     ensures { λ r. ⌜ r ≡ table-place refusal ⌝ }
 {
     match refusal {
         TableRefusal::CountTooLarge(side) => place_of_side(side),
         TableRefusal::RangeOutside(range) => place_of_range(range),
-        TableRefusal::NoHunksOfSide => 0,
-        TableRefusal::SideFull => 0,
-        TableRefusal::HunkEmpty => 0,
-        TableRefusal::NotBehindLast => 0,
-        TableRefusal::NothingHeld => 0,
+        TableRefusal::NoHunksOfSide
+        | TableRefusal::SideFull
+        | TableRefusal::HunkEmpty
+        | TableRefusal::NotBehindLast
+        | TableRefusal::NothingHeld => 0,
     }
 }
 

@@ -1,6 +1,7 @@
 //! Any calls to a table, one after another.
 ghost use Rattle.hunks.specs.Tables.{model, call-of};
 ghost use Rattle.rules.specs.Runs.{after-call, after-calls};
+ghost use Rattle.rules.specs.TableLaws.{Table-keeps};
 ghost use mathlib.Core.List.{map};
 ghost use mathlib.Core.Path.{_≡_};
 use crate::table::HunkTable;
@@ -10,7 +11,11 @@ use rules::hunk::Side;
 /// A call to a table.
 #[derive(Clone, Copy)]
 pub enum Call {
-    Open { ancestor: u32, current: u32, other: u32 },
+    Open {
+        ancestor: u32,
+        current: u32,
+        other: u32,
+    },
     Enter(Hunk),
     Withdraw(Side),
 }
@@ -19,7 +24,11 @@ fn make(table: &mut HunkTable, call: Call)
     ensures { λ _. ⌜ model (now (table .exit)) ≡ after-call (model (now (table .entry))) (call-of call) ⌝ }
 {
     match call {
-        Call::Open { ancestor, current, other } => {
+        Call::Open {
+            ancestor,
+            current,
+            other,
+        } => {
             let _ = table.open(ancestor, current, other);
         }
         Call::Enter(hunk) => {
@@ -33,7 +42,8 @@ fn make(table: &mut HunkTable, call: Call)
 
 /// Makes the calls in order; one that is refused changes nothing, and the next is made.
 pub fn run(table: &mut HunkTable, calls: &[Call])
-    ensures { λ _. ⌜ model (now (table .exit)) ≡ after-calls (model (now (table .entry))) (map call-of (now (calls .entry))) ⌝ }
+    ensures after { λ _. ⌜ model (now (table .exit)) ≡ after-calls (model (now (table .entry))) (map call-of (now (calls .entry))) ⌝ }
+    ensures keeps { λ _. ⌜ Table-keeps (model (now (table .exit))) ⌝ }
 {
     for call in calls {
         make(table, *call);

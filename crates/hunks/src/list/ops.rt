@@ -1,5 +1,5 @@
-ghost use Prim.Native.Nat.{ℕ, _+_, _-_, _<_, _≤_};
-ghost use Rattle.hunks.specs.Lists.{held, pushed, pushed-all, no-hunk, pointed, with-hunk};
+ghost use Prim.Native.Nat.{ℕ, _+_};
+ghost use Rattle.hunks.specs.Lists.{held, pushed, pushed-all, pointed, with-hunk};
 ghost use Rattle.hunks.specs.contracts.list.HunkList.{the-row as list-row};
 ghost use Rattle.rules.specs.Tables.{last-of, without-last};
 ghost use Rattle.rules.specs.contracts.hunk.Hunk.{the-row as hunk-row};
@@ -9,7 +9,7 @@ ghost use Rattle.std.specs.Changed.{nameOf};
 ghost use denote.Ref.{name};
 ghost use ghost.Atoms.{sem};
 ghost use lib.Dec.{leb, ltb};
-ghost use lib.ListN.{length, getD, take, drop};
+ghost use lib.ListN.{length, take, drop};
 ghost use mathlib.Core.Bool.{false};
 ghost use mathlib.Core.List.{[]};
 ghost use mathlib.Core.Path.{_≡_};

@@ -39,7 +39,12 @@ fn stands_behind(last: Option<Hunk>, hunk: Hunk) -> bool
 }
 
 // The questions of enter that follow the side's, and the side's new count.
-fn admit(list: &HunkList<MAX_HUNKS>, ancestor: u32, lines: u32, hunk: Hunk) -> Result<usize, TableRefusal>
+fn admit(
+    list: &HunkList<MAX_HUNKS>,
+    ancestor: u32,
+    lines: u32,
+    hunk: Hunk,
+) -> Result<usize, TableRefusal>
     ensures { λ r. ⌜ r ≡ answered (hunk-questions ancestor lines (held (now (list .entry))) hunk) (length (held (now (list .entry))) + 1) ⌝ }
 {
     if list.len() >= MAX_HUNKS {
@@ -97,8 +102,8 @@ impl HunkTable {
         Ok(())
     }
 
-    // What enter answers to the hunk.
-    fn judge(&self, hunk: Hunk) -> Result<usize, TableRefusal>
+    // What enter answers to a hunk.
+    fn enter_answer(&self, hunk: Hunk) -> Result<usize, TableRefusal>
         ensures { λ r. ⌜ r ≡ enter-answer (model (now (self .entry))) hunk ⌝ }
     {
         match hunk.side {
@@ -114,7 +119,7 @@ impl HunkTable {
         ensures after { λ _. ⌜ model (now (self .exit)) ≡ enter-after (model (now (self .entry))) hunk ⌝ }
         ensures same { λ r. ⌜ (isErr r ≡ true → now (self .exit) ≡ now (self .entry)) ⌝ }
     {
-        let count = self.judge(hunk)?;
+        let count = self.enter_answer(hunk)?;
         match hunk.side {
             Side::Current => {
                 self.current.push(hunk);
@@ -127,8 +132,8 @@ impl HunkTable {
         Ok(count)
     }
 
-    // What withdraw answers for the side.
-    fn one_less(&self, side: Side) -> Result<usize, TableRefusal>
+    // What withdraw answers for a side.
+    fn withdraw_answer(&self, side: Side) -> Result<usize, TableRefusal>
         ensures { λ r. ⌜ r ≡ withdraw-answer (model (now (self .entry))) side ⌝ }
     {
         match side {
@@ -146,7 +151,7 @@ impl HunkTable {
         ensures after { λ _. ⌜ model (now (self .exit)) ≡ withdraw-after (model (now (self .entry))) side ⌝ }
         ensures same { λ r. ⌜ (isErr r ≡ true → now (self .exit) ≡ now (self .entry)) ⌝ }
     {
-        let count = self.one_less(side)?;
+        let count = self.withdraw_answer(side)?;
         match side {
             Side::Current => {
                 self.current.pop();

@@ -7,6 +7,7 @@ use Rattle.rules.specs.Tables.{Held}
 use Rattle.rules.specs.Runs.{after-calls}
 use Rattle.hunks.specs.declared.run.Call.{Call}
 use Rattle.hunks.specs.Tables.{model, call-of}
+use Rattle.hunks.proofs.Keeping.{table-keeps}
 use Rattle.hunks.proofs.run.run.Needs as need
 
 pub loop-call-again : need.loop-call-again
@@ -18,5 +19,7 @@ loop-call-again c =
     ∙ sym (ap (λ (t : Held). after-calls t (map call-of (drop (i + 1) xs))) (c .make .ensures)))
 
 pub returns : need.returns
-returns c =
-    sym (c .loop-call .inv ∙ at-drop-all (λ (ys : List Call). after-calls (model (c .loop-call .table)) (map call-of ys)) (c .args .calls .now) (c .loop-call .call-index) (c .loop-call-test .left))
+returns c = record {
+  after = sym (c .loop-call .inv ∙ at-drop-all (λ (ys : List Call). after-calls (model (c .loop-call .table)) (map call-of ys)) (c .args .calls .now) (c .loop-call .call-index) (c .loop-call-test .left));
+  keeps = table-keeps (c .loop-call .table);
+}

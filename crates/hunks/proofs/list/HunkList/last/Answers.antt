@@ -1,6 +1,6 @@
 use mathlib.Core.Path.{sym}
 use native.Mathlib.Omega.{arith}
-use Rattle.hunks.proofs.Keeping.{last-taken}
+use Rattle.rules.proofs.Keeping.{last-taken}
 use Rattle.hunks.proofs.list.HunkList.last.Needs as need
 
 pub returns-else-self-eq0 : need.returns-else-self-eq0

@@ -6,8 +6,8 @@ use lib.ListN.{length, take, getD}
 use Rattle.std.proofs.shelf.Lists.{append-assoc, append-nil, length-append, length-take-le, take-more, take-all}
 use Rattle.std.proofs.shelf.Tests.{le-leb}
 use Rattle.rules.specs.declared.hunk.Hunk.{Hunk}
-use Rattle.hunks.specs.Lists.{held, no-hunk}
-use Rattle.hunks.proofs.Helds.{held-length, pushed-room, pushed-all-room}
+use Rattle.hunks.specs.Lists.{held}
+use Rattle.hunks.proofs.Helds.{no-hunk, held-length, pushed-room, pushed-all-room}
 use Rattle.hunks.proofs.list.HunkList.push_all.Needs as need
 
 pub loop-hunk-holds : need.loop-hunk-holds

@@ -1,8 +1,8 @@
 use Prim.Native.Nat.{_+_, _<_}
 use mathlib.Core.Path.{_≡_, _∙_}
 use native.Mathlib.Omega.{arith}
-use Rattle.hunks.specs.Lists.{held, no-hunk}
-use Rattle.hunks.proofs.Helds.{held-length, drop-least}
+use Rattle.hunks.specs.Lists.{held}
+use Rattle.hunks.proofs.Helds.{no-hunk, held-length, drop-least}
 use Rattle.hunks.proofs.Shifting.{shift-step, shift-done}
 use Rattle.hunks.proofs.list.HunkList.remove_front.Needs as need
 
