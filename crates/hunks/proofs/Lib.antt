@@ -1,0 +1,4 @@
+pub mod Helds
+pub mod Shifting
+pub mod Entering
+pub mod Keeping
