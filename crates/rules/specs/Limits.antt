@@ -8,3 +8,11 @@ max-lines = 4096
 -- The most bytes of a sheet's lines together.
 abbrev pub max-bytes : ℕ
 max-bytes = 60000
+
+-- The most bytes that a row sink shows of its row.
+abbrev pub row-width : ℕ
+row-width = 40
+
+-- The most bytes that can be announced to a row sink.
+abbrev pub row-capacity : ℕ
+row-capacity = 4294967295

@@ -4,3 +4,7 @@
 pub const MAX_LINES: u32 = 4096;
 /// The most bytes of a sheet's lines together.
 pub const MAX_BYTES: usize = 60000;
+/// The most bytes that a row sink shows of its row.
+pub const ROW_WIDTH: usize = 40;
+/// The most bytes that can be announced to a row sink.
+pub const ROW_CAPACITY: usize = 4294967295;
