@@ -1,7 +1,7 @@
 //! A sink of another crate, callers of the sinks, and tests.
 
-pub mod entry;
-pub mod log;
-pub mod print;
+mod entry;
+mod log;
+mod print;
 #[cfg(test)]
 mod tests;
