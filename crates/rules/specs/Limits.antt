@@ -20,3 +20,11 @@ max-label = 64
 -- The largest marker size.
 abbrev pub max-marker-size : ℕ
 max-marker-size = 255
+
+-- The most bytes that a row sink shows of its row.
+abbrev pub row-width : ℕ
+row-width = 40
+
+-- The most bytes that can be announced to a row sink.
+abbrev pub row-capacity : ℕ
+row-capacity = 4294967295

@@ -16,6 +16,10 @@ pub record Chunk : Type 0 where
   pub kind : Kind
   pub bytes : List ℕ
 
+-- A piece's length in bytes.
+abbrev pub size : Chunk → ℕ
+size c = length (c .bytes)
+
 -- The bytes of pieces in order.
 abbrev pub all-bytes : List Chunk → List ℕ
 all-bytes [] = []
@@ -24,7 +28,7 @@ all-bytes (c ∷ cs) = c .bytes ++ all-bytes cs
 -- The length of pieces in bytes.
 abbrev pub total : List Chunk → ℕ
 total [] = 0
-total (c ∷ cs) = length (c .bytes) + total cs
+total (c ∷ cs) = size c + total cs
 
 -- What a rule makes of pieces in order, from a value on.
 abbrev pub made : {V : Type 0} → (V → Chunk → V) → V → List Chunk → V

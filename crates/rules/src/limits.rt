@@ -10,3 +10,7 @@ pub const MAX_HUNKS: usize = 256;
 pub const MAX_LABEL: usize = 64;
 /// The largest marker size.
 pub const MAX_MARKER_SIZE: u32 = 255;
+/// The most bytes that a row sink shows of its row.
+pub const ROW_WIDTH: usize = 40;
+/// The most bytes that can be announced to a row sink.
+pub const ROW_CAPACITY: usize = 4294967295;
