@@ -1,4 +1,4 @@
-use Rattle.rules.proofs.Tables.{tables-keep}
+use Rattle.rules.proofs.TableKeeps.{tables-keep}
 use Rattle.rules.proofs.tables_keep.Needs as need
 
 pub returns : need.returns

@@ -1,4 +1,4 @@
-use Rattle.rules.proofs.Tables.{agree-over-runs}
+use Rattle.rules.proofs.RunAgreement.{agree-over-runs}
 use Rattle.rules.proofs.units_agree_over_runs.Needs as need
 
 pub returns : need.returns
