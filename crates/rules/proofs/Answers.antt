@@ -1,5 +1,4 @@
 -- The answers of two units to the same calls, sides exchanged.
-use Rattle.rules.specs.Verdict.{verdict}
 use Prim.Native.Nat.{ℕ, _+_, _-_}
 use mathlib.Core.Path.{_≡_, refl, sym, ap, ap₂, subst, subst₂}
 use mathlib.Core.Bool.{Bool, true, false}
@@ -22,6 +21,7 @@ use Rattle.rules.specs.declared.refusal.TableRefusal.the-variants.{CountTooLar
 use Rattle.rules.specs.Limits.{max-lines}
 use Rattle.rules.specs.Hunks.{Sheets}
 use Rattle.rules.specs.Markers.{Labels}
+use Rattle.rules.specs.Verdict.{verdict}
 use Rattle.rules.specs.Questions.{ask, answered}
 use Rattle.rules.specs.Refusals.{render-number}
 use Rattle.rules.specs.Tables.{Held, enter-answer, new-table, withdraw-answer}

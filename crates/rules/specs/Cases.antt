@@ -1,13 +1,13 @@
 -- The worked cases: what each mode writes and answers. The bytes and verdicts are those of the mended Rust.
 use Prim.Native.Nat.{ℕ}
 use mathlib.Core.Path.{_≡_}
-use mathlib.Core.List.{List, [], _∷_, _++_}
+use mathlib.Core.List.{List, [], _∷_}
 use Rattle.std.specs.declared.option.Option.the-variants.{None, Some}
 use Rattle.std.specs.declared.result.Result.the-variants.{Ok, Err}
 use lib.Chars.{codes}
+use Rattle.rules.specs.declared.hunk.Hunk.{Hunk}
 use Rattle.rules.specs.declared.hunk.Side.{Side}
 use Rattle.rules.specs.declared.hunk.Side.the-variants.{Current, Other}
-use Rattle.rules.specs.declared.hunk.Hunk.{Hunk}
 use Rattle.rules.specs.declared.mode.Conflict as modes
 use Rattle.rules.specs.declared.mode.Conflict.the-variants.{Keep, ResolveWithOurs, ResolveWithTheirs, ResolveWithUnion}
 use Rattle.rules.specs.declared.mode.ConflictStyle.the-variants.{Merge, Diff3, ZealousDiff3}

@@ -1,6 +1,4 @@
 -- The laws over runs of calls: what a table keeps, and what two units agree on after any two runs.
-use Rattle.rules.specs.declared.refusal.RenderRefusal.the-variants.{SinkTooSmall}
-use Rattle.rules.specs.declared.refusal.RenderRefusal.{RenderRefusal}
 use Prim.Native.Nat.{ℕ, _≤_, _<_}
 use mathlib.Core.Path.{_≡_}
 use mathlib.Core.List.{List, [], _∷_, _++_, map}
@@ -11,6 +9,8 @@ use Rattle.std.specs.declared.result.Result.the-variants.{Ok, Err}
 use Rattle.rules.specs.declared.hunk.Hunk.{Hunk}
 use Rattle.rules.specs.declared.hunk.Side.{Side}
 use Rattle.rules.specs.declared.mode.Resolution.{Resolution}
+use Rattle.rules.specs.declared.refusal.RenderRefusal.{RenderRefusal}
+use Rattle.rules.specs.declared.refusal.RenderRefusal.the-variants.{SinkTooSmall}
 use Rattle.rules.specs.declared.refusal.TableRefusal.{TableRefusal}
 use Rattle.rules.specs.Limits.{max-lines}
 use Rattle.rules.specs.Hunks.{Sheets}

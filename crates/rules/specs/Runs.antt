@@ -1,8 +1,5 @@
 -- Runs of calls: opens, enters, withdrawals and renders in any order, accepted or refused.
 use Rattle.std.specs.declared.result.Result.the-variants.{Ok, Err}
-use Rattle.rules.specs.declared.refusal.RenderRefusal.{RenderRefusal}
-use Rattle.rules.specs.declared.mode.Resolution.{Resolution}
-use Rattle.rules.specs.declared.refusal.TableRefusal.{TableRefusal}
 use mathlib.Core.Bool.{Bool, cond, true, false}
 use Rattle.std.specs.declared.result.Result.{Result}
 use Prim.Native.Nat.{ℕ, zero, suc}
@@ -10,6 +7,9 @@ use mathlib.Core.List.{List, [], _∷_, _++_}
 use lib.ListN.{length}
 use Rattle.rules.specs.declared.hunk.Hunk.{Hunk}
 use Rattle.rules.specs.declared.hunk.Side.{Side}
+use Rattle.rules.specs.declared.mode.Resolution.{Resolution}
+use Rattle.rules.specs.declared.refusal.RenderRefusal.{RenderRefusal}
+use Rattle.rules.specs.declared.refusal.TableRefusal.{TableRefusal}
 use Rattle.rules.specs.Hunks.{Sheets}
 use Rattle.rules.specs.Tables.{Held, new-table, open-after, enter-after, withdraw-after, enter-answer, open-answer, same-side, withdraw-answer}
 use Rattle.rules.specs.Renders.{Asked, render-answer}
