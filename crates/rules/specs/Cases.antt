@@ -22,15 +22,15 @@ use Rattle.rules.specs.Rendering.{rendering}
 use Rattle.rules.specs.Verdict.{verdict}
 use Rattle.rules.specs.Tables.{opened, enter-answer, enter-after}
 
--- The hunk a..b/c..d of a side: a..b in the ancestor, c..d in the side's sheet.
-abbrev pub hunk : Side → ℕ → ℕ → ℕ → ℕ → Hunk
-hunk side a b c d = record { before = record { start = a; end = b }; after = record { start = c; end = d }; side = side }
+-- The hunk-of a..b/c..d of a side: a..b in the ancestor, c..d in the side's sheet.
+abbrev pub hunk-of : Side → ℕ → ℕ → ℕ → ℕ → Hunk
+hunk-of side a b c d = record { before = record { start = a; end = b }; after = record { start = c; end = d }; side = side }
 
 abbrev pub cur : ℕ → ℕ → ℕ → ℕ → Hunk
-cur = hunk Current
+cur = hunk-of Current
 
 abbrev pub oth : ℕ → ℕ → ℕ → ℕ → Hunk
-oth = hunk Other
+oth = hunk-of Other
 
 -- Three sheets, the hunks held, and what is asked of a render.
 pub record Case : Type 0 where
@@ -106,7 +106,7 @@ both-delete = record {
   size = 7;
 }
 
--- A stretch of the ancestor is cut at the front, behind a hunk without lines.
+-- A stretch of the ancestor is cut at the front, behind a hunk-of without lines.
 abbrev pub front-cut : Case
 front-cut = record {
   sheets = sheets-of (text-lines (codes "a\nx\nx\ny\ne\n")) (text-lines (codes "a\nx\ny\ne\n")) (text-lines (codes "a\nx\nz\ne\n"));
@@ -136,7 +136,7 @@ rewritten = record {
   size = 7;
 }
 
--- One hunk joins two of the other side into one group; the lines between these are written once.
+-- One hunk-of joins two of the other side into one group; the lines between these are written once.
 abbrev pub between-two : Case
 between-two = record {
   sheets = sheets-of (text-lines (codes "a\nb\nc\nd\n")) (text-lines (codes "A\nb\nc\nD\n")) (text-lines (codes "a\nd\n"));
@@ -208,7 +208,7 @@ first-deletion = record {
 }
 
 -- A last line that ends in a bare carriage return lacks the newline: the line ahead of it decides, though it lies
--- outside the hunk.
+-- outside the hunk-of.
 abbrev pub bare-return : Case
 bare-return = record {
   sheets = sheets-of (text-lines (codes "k\r\na\r")) (text-lines (codes "k\r\nb\r")) (text-lines (codes "k\r\nc\r"));
@@ -351,6 +351,6 @@ pub record Cases : Type 0 where
       (gives (codes "p\nb\n") CompleteWithAutoResolvedConflict)
       (gives (codes "u\r\nvb\n") CompleteWithAutoResolvedConflict)
       (gives (codes "p\nu\r\nv\r\nb\n") CompleteWithAutoResolvedConflict)
-  -- the table: behind 0..1/0..1 a hunk that starts at its end is refused, one that leaves a line between is not
+  -- the table: behind 0..1/0..1 a hunk-of that starts at its end is refused, one that leaves a line between is not
   pub touching-enter-refused : enter-answer (enter-after (opened 2 3 3) (cur 0 1 0 1)) (cur 1 1 1 2) ≡ Err NotBehindLast
   pub later-enter-taken : enter-answer (enter-after (opened 2 3 3) (cur 0 1 0 1)) (cur 2 2 2 3) ≡ Ok 2
