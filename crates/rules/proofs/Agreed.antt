@@ -13,7 +13,7 @@ use Rattle.rules.specs.Agreement.{Own-laws, Units-agree, Laws}
 use Rattle.rules.proofs.Chains.{groups-are-chains}
 use Rattle.rules.proofs.HunkWords.{hunk-laws}
 use Rattle.rules.proofs.Marked.{marker-laws}
-use Rattle.rules.proofs.Mirror.{same-outline, same-verdict}
+use Rattle.rules.proofs.Mirror.{same-outline, same-verdict, same-judged}
 use Rattle.rules.proofs.Outlines.{outlined}
 use Rattle.rules.proofs.Ranges.{range-laws}
 use Rattle.rules.proofs.Shown.{ending-laws}
@@ -65,4 +65,4 @@ laws s cs os p = record {
 }
 
 pub units-agree : Units-agree
-units-agree s cs os p = record { own = own-laws s cs os p; alike = record { same-outline = same-outline s cs os p; same-verdict = same-verdict s cs os p } }
+units-agree s cs os p = record { own = own-laws s cs os p; alike = record { same-outline = same-outline s cs os p; same-verdict = same-verdict s cs os p; same-judged = same-judged s cs os p } }

@@ -1,10 +1,7 @@
 -- Where Union closes an open line, and by which ending.
-use Rattle.rules.specs.declared.ending.Ending.{Ending}
-use Rattle.rules.specs.declared.mode.Conflict.the-variants.{ResolveWithUnion}
-use Rattle.rules.specs.declared.mode.ConflictStyle.the-variants.{Merge}
 use Prim.Native.Nat.{ℕ}
 use mathlib.Core.Path.{_≡_, refl, sym, ap, subst, subst₂, _∙_, ap₂}
-use mathlib.Core.Bool.{Bool, true, false, cond, _&&_, or-false}
+use mathlib.Core.Bool.{Bool, true, false, cond, _&&_}
 use mathlib.Core.List.{List, [], _∷_, _++_}
 use Rattle.std.specs.declared.option.Option.{Option}
 use Rattle.std.specs.declared.option.Option.the-variants.{None, Some}
@@ -12,7 +9,10 @@ use lib.ListN.{drop}
 use Rattle.std.proofs.shelf.Lists.{append-nil, append-assoc}
 use Rattle.std.proofs.shelf.Tests.{not-false}
 use Rattle.std.specs.shelf.Lists.{All}
+use Rattle.rules.specs.declared.ending.Ending.{Ending}
 use Rattle.rules.specs.declared.hunk.Hunk.{Hunk}
+use Rattle.rules.specs.declared.mode.Conflict.the-variants.{ResolveWithUnion}
+use Rattle.rules.specs.declared.mode.ConflictStyle.the-variants.{Merge}
 use Rattle.rules.specs.Lines.{Line, between, same-lines}
 use Rattle.rules.specs.Hunks.{Sheets, hunk-lines, side-lines}
 use Rattle.rules.specs.Walk.{is-current, walk}
@@ -20,7 +20,7 @@ use Rattle.rules.specs.Groups.{from, to, is-group, Cluster, clusters}
 use Rattle.rules.specs.Filling.{ours-lines, sides-differ, theirs-lines}
 use Rattle.rules.specs.Sides.{Sides, contracted-sides, line-left}
 use Rattle.rules.specs.Endings.{ending-of, or-newline}
-use Rattle.rules.specs.Pieces.{common, ours, theirs, ending}
+use Rattle.rules.specs.Pieces.{common, ours, theirs}
 use Rattle.rules.specs.Steps.{Step, close, each, left-open, pieces-of}
 use Rattle.rules.specs.Markers.{Labels}
 use Rattle.rules.specs.Unions.{back-close, both-steps, union-steps}

@@ -41,4 +41,5 @@ pub mod RenderLaws
 pub mod Lengths
 pub mod Agreement
 pub mod RunLaws
+pub mod Statements
 pub mod Cases

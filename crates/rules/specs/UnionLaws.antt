@@ -1,23 +1,23 @@
 -- The laws of Union: where it closes an open line, and by which ending.
-use Rattle.rules.specs.declared.mode.Conflict.the-variants.{ResolveWithUnion}
-use Rattle.rules.specs.Rendering.{rendering}
-use Rattle.rules.specs.Walk.{walk}
-use Rattle.rules.specs.declared.ending.Ending.{Ending}
 use mathlib.Core.Path.{_≡_}
 use mathlib.Core.Bool.{Bool, false, cond, _&&_}
 use mathlib.Core.List.{List, [], _∷_, _++_}
 use Rattle.std.specs.declared.option.Option.{Option}
 use Rattle.std.specs.declared.option.Option.the-variants.{None, Some}
+use Rattle.rules.specs.declared.ending.Ending.{Ending}
 use Rattle.rules.specs.declared.hunk.Hunk.{Hunk}
+use Rattle.rules.specs.declared.mode.Conflict.the-variants.{ResolveWithUnion}
 use Rattle.rules.specs.Lines.{Line}
 use Rattle.rules.specs.Hunks.{Sheets}
+use Rattle.rules.specs.Walk.{walk}
 use Rattle.rules.specs.Groups.{Cluster, is-group, clusters}
 use Rattle.rules.specs.Filling.{sides-differ}
 use Rattle.rules.specs.Sides.{contracted-sides}
 use Rattle.rules.specs.Endings.{ending-of}
-use Rattle.rules.specs.Pieces.{Chunk, common, ours, theirs, ending}
+use Rattle.rules.specs.Pieces.{Chunk, common, ours, theirs}
 use Rattle.rules.specs.Steps.{left-open}
 use Rattle.rules.specs.Markers.{Labels}
+use Rattle.rules.specs.Rendering.{rendering}
 use Rattle.rules.specs.MarkerLaws.{piece, closed, first-shown}
 
 -- The endings of a group: ahead of ours, ahead of theirs, and ahead of back if there is a back.
