@@ -1,6 +1,6 @@
 -- What a table keeps of a side's hunks, through an enter and a withdrawal.
 use Prim.Native.Nat.{ℕ, zero, suc, _+_, _-_, _≤_, _<_}
-use mathlib.Core.Path.{_≡_, refl, sym, _∙_, ap}
+use mathlib.Core.Path.{_≡_, refl, _∙_, ap}
 use mathlib.Core.Bool.{Bool, true, false, _&&_}
 use mathlib.Core.List.{List, [], _∷_, _++_}
 use native.Mathlib.Omega.{arith}
@@ -10,9 +10,9 @@ use Rattle.std.proofs.shelf.Lists.{take-more}
 use Rattle.std.proofs.shelf.Tests.{ltb-true, and-parts, and-from}
 use Rattle.std.specs.declared.option.Option.{Option}
 use Rattle.std.specs.declared.option.Option.the-variants.{Some, None}
+use Rattle.rules.specs.declared.hunk.Hunk.{Hunk}
 use Rattle.rules.specs.declared.hunk.Side.{Side}
 use Rattle.rules.specs.declared.hunk.Side.the-variants.{Current, Other, Ancestor}
-use Rattle.rules.specs.declared.hunk.Hunk.{Hunk}
 use Rattle.rules.specs.Limits.{max-hunks}
 use Rattle.rules.specs.Tables.{within, changes, follows, last-from, last-of, without-last, hunk-questions, same-side, sound, keeps-from, keeps}
 use Rattle.rules.proofs.Asking.{yes-then}

@@ -1,31 +1,32 @@
 -- Size and render follow their rules.
 use Prim.Native.Nat.{ℕ, _+_, _≤_}
-use native.Mathlib.Omega.{arith}
 use mathlib.Core.Path.{_≡_, refl, sym, ap, _∙_}
-use mathlib.Core.Bool.{Bool, true, false, cond}
+use mathlib.Core.Bool.{Bool, true}
 use mathlib.Core.List.{List, [], _∷_, _++_}
-use mathlib.Core.Logic.{_⊎_, inl, inr}
 use Rattle.std.specs.declared.option.Option.{Option}
 use Rattle.std.specs.declared.option.Option.the-variants.{None, Some}
 use Rattle.std.specs.declared.result.Result.{Result}
 use Rattle.std.specs.declared.result.Result.the-variants.{Ok, Err}
 use lib.ListN.{length, length-append}
 use lib.Dec.{leb, eqb}
-use Rattle.std.proofs.shelf.Tests.{false≢true, leb-true, le-leb, eqb-true, eq-eqb, and-parts, and-from}
-use Rattle.rules.specs.Pieces.{Chunk, all-bytes, total, made}
+use Rattle.std.proofs.shelf.Tests.{leb-true, le-leb, eqb-true, eq-eqb, and-parts, and-from}
+use Rattle.rules.specs.declared.hunk.Side.the-variants.{Current, Other, Ancestor}
 use Rattle.rules.specs.declared.mode.Conflict as modes
 use Rattle.rules.specs.declared.mode.Conflict.the-variants.{Keep, ResolveWithOurs, ResolveWithTheirs, ResolveWithUnion}
 use Rattle.rules.specs.declared.mode.Resolution.{Resolution}
-use Rattle.rules.specs.Hunks.{Sheets}
-use Rattle.rules.specs.Rendering.{Labels, rendering, verdict}
-use Rattle.rules.specs.declared.hunk.Side.the-variants.{Current, Other, Ancestor}
 use Rattle.rules.specs.declared.refusal.RenderRefusal.{RenderRefusal}
 use Rattle.rules.specs.declared.refusal.RenderRefusal.the-variants.{CountsDiffer, MarkerSize, LabelTooLong, SinkTooSmall}
 use Rattle.rules.specs.Limits.{max-label, max-marker-size}
+use Rattle.rules.specs.Hunks.{Sheets}
+use Rattle.rules.specs.Pieces.{Chunk, all-bytes, total, made}
+use Rattle.rules.specs.Markers.{Labels}
+use Rattle.rules.specs.Rendering.{rendering}
+use Rattle.rules.specs.Verdict.{verdict}
 use Rattle.rules.specs.Questions.{ask, answered, changed, Question}
 use Rattle.rules.specs.Refusals.{render-number, render-place, needed-length, sink-capacity, Render-refuses}
 use Rattle.rules.specs.Tables.{Held}
-use Rattle.rules.specs.Renders.{Asked, size-fits, label-fits, shared-questions, needed, room, render-questions, render-answer, Sink, filled-sink, Counted, Size-fits, Label-fits, Shared-told, Render-told, Render-rules}
+use Rattle.rules.specs.Renders.{Asked, size-fits, label-fits, shared-questions, needed, room, render-questions, render-answer, filled-sink}
+use Rattle.rules.specs.RenderLaws.{Counted, Size-fits, Label-fits, Shared-told, Render-told, Render-rules}
 use Rattle.rules.proofs.Asking.{yes-then, question, accepted, turned-down}
 
 size-says : (m : modes.Conflict) → size-fits m ≡ true → Size-fits m
@@ -109,7 +110,7 @@ module _ {A : Type 0} (t : Held) (s : Sheets) (m : modes.Conflict) (l : Labels) 
       (told x (LabelTooLong Current) (label-fits (l .current)) (Label-fits (l .current)) s₅ S₅ (label-says (l .current)) (says-label (l .current))
       (told x (LabelTooLong Other) (label-fits (l .other)) (Label-fits (l .other)) next Next (label-says (l .other)) (says-label (l .other)) k))))))
 
-counted-then : (t : Held) (s : Sheets) (m : modes.Conflict) (l : Labels) (next : Option RenderRefusal) → shared-questions t s m l next ≡ None → Counted s t
+pub counted-then : (t : Held) (s : Sheets) (m : modes.Conflict) (l : Labels) (next : Option RenderRefusal) → shared-questions t s m l next ≡ None → Counted s t
 counted-then t s m l next e =
     let q₀ = yes-then (eqb (length (s .ancestor)) (t .ancestor-lines)) _ _ e in
     let q₁ = yes-then (eqb (length (s .current)) (t .current-lines)) _ _ (q₀ .1) in

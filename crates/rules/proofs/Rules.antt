@@ -1,22 +1,23 @@
 -- Open, enter and withdraw follow their rules.
-use Prim.Native.Nat.{ℕ, _+_, _-_, _≤_, _<_}
+use Prim.Native.Nat.{ℕ, zero, suc, _+_, _-_, _≤_, _<_}
 use native.Mathlib.Omega.{arith}
 use mathlib.Core.Path.{_≡_, refl, sym, ap, ap₂, _∙_}
-use mathlib.Core.Bool.{Bool, true, false}
+use mathlib.Core.Bool.{Bool, true}
 use mathlib.Core.List.{List, [], _∷_, _++_}
 use mathlib.Core.Logic.{_⊎_, inl, inr, ⊎-elim}
 use Rattle.std.specs.declared.option.Option.{Option}
 use Rattle.std.specs.declared.option.Option.the-variants.{None, Some}
 use Rattle.std.specs.declared.result.Result.{Result}
 use Rattle.std.specs.declared.result.Result.the-variants.{Ok, Err}
+use Rattle.std.specs.shelf.Maps.{nth}
 use lib.ListN.{length, take, length-append}
 use lib.Seq.{take-at}
 use lib.Dec.{leb, ltb}
 use Rattle.std.proofs.shelf.Tests.{false≢true, leb-true, le-leb, ltb-true, lt-ltb, and-parts, and-from, or-cases, or-left, or-right}
+use Rattle.rules.specs.declared.hunk.Hunk.{Hunk}
 use Rattle.rules.specs.declared.hunk.Side.{Side}
 use Rattle.rules.specs.declared.hunk.Side.the-variants.{Current, Other, Ancestor}
 use Rattle.rules.specs.declared.hunk.Span.{Span}
-use Rattle.rules.specs.declared.hunk.Hunk.{Hunk}
 use Rattle.rules.specs.declared.refusal.HunkRange.the-variants.{Before, After}
 use Rattle.rules.specs.declared.refusal.TableRefusal.{TableRefusal}
 use Rattle.rules.specs.declared.refusal.TableRefusal.the-variants.{CountTooLarge, NoHunksOfSide, SideFull, RangeOutside, HunkEmpty, NotBehindLast, NothingHeld}
@@ -272,6 +273,16 @@ undone t h n = by (enter-questions t (h .side) h) refl
     by None p e = taken-back t (h .side) h (may-enter t (h .side) h p .sided)
     by (Some r) p e = let z : _≡_ {A = ℕ} 0 1 = cc in absurd (omega arith)
 
+-- what is shown
+nth-there : (gs : List Hunk) (h : Hunk) (hs : List Hunk) → nth (gs ++ (h ∷ hs)) (length gs) ≡ Some h
+nth-there [] h hs = refl
+nth-there (g ∷ gs) h hs = nth-there gs h hs
+
+nth-past : (hs : List Hunk) (n : ℕ) → length hs ≤ n → nth hs n ≡ None
+nth-past [] n le = refl
+nth-past (h ∷ hs) zero le = absurd (omega arith)
+nth-past (h ∷ hs) (suc n) le = nth-past hs n (omega arith)
+
 pub follow-rules : Tables-follow-rules
 follow-rules t = record {
   enters = enter-law t;
@@ -281,5 +292,7 @@ follow-rules t = record {
   open-told = open-told;
   enter-told = λ h. entered-told t (h .side) h;
   withdraw-told = withdraw-told t;
+  shown = λ side gs h hs e. ap (λ (l : List Hunk). nth l (length gs)) e ∙ nth-there gs h hs;
+  not-shown = λ side n le. nth-past (held-of t side) n le;
   undone = undone t;
 }

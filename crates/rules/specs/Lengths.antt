@@ -2,14 +2,15 @@
 use Prim.Native.Nat.{ℕ, _+_, _≤_, _<_}
 use mathlib.Core.List.{List, [], _∷_}
 use lib.ListN.{length}
-use Rattle.rules.specs.Limits.{max-bytes}
-use Rattle.rules.specs.Pieces.{total}
 use Rattle.rules.specs.declared.hunk.Hunk.{Hunk}
 use Rattle.rules.specs.declared.mode.Conflict as modes
+use Rattle.rules.specs.Limits.{max-bytes}
 use Rattle.rules.specs.Lines.{Line}
 use Rattle.rules.specs.Hunks.{Sheets}
-use Rattle.rules.specs.Rendering.{Labels, rendering}
-use Rattle.rules.specs.Renders.{Size-fits, Label-fits}
+use Rattle.rules.specs.Pieces.{total}
+use Rattle.rules.specs.Markers.{Labels}
+use Rattle.rules.specs.Rendering.{rendering}
+use Rattle.rules.specs.RenderLaws.{Size-fits, Label-fits}
 
 abbrev pub bytes-of : List Line → ℕ
 bytes-of [] = 0

@@ -5,14 +5,14 @@ use Rattle.std.specs.declared.result.Result.{Result}
 use Rattle.std.specs.declared.result.Result.the-variants.{Err}
 use Rattle.rules.specs.declared.hunk.Side.{Side}
 use Rattle.rules.specs.declared.hunk.Side.the-variants.{Current, Other, Ancestor}
-use Rattle.rules.specs.declared.refusal.Layer.{Layer}
-use Rattle.rules.specs.declared.refusal.Layer.the-variants.{Table, Render}
 use Rattle.rules.specs.declared.refusal.HunkRange.{HunkRange}
 use Rattle.rules.specs.declared.refusal.HunkRange.the-variants.{Before, After}
-use Rattle.rules.specs.declared.refusal.TableRefusal.{TableRefusal}
-use Rattle.rules.specs.declared.refusal.TableRefusal.the-variants.{CountTooLarge, NoHunksOfSide, SideFull, RangeOutside, HunkEmpty, NotBehindLast, NothingHeld}
+use Rattle.rules.specs.declared.refusal.Layer.{Layer}
+use Rattle.rules.specs.declared.refusal.Layer.the-variants.{Table, Render}
 use Rattle.rules.specs.declared.refusal.RenderRefusal.{RenderRefusal}
 use Rattle.rules.specs.declared.refusal.RenderRefusal.the-variants.{CountsDiffer, MarkerSize, LabelTooLong, SinkTooSmall}
+use Rattle.rules.specs.declared.refusal.TableRefusal.{TableRefusal}
+use Rattle.rules.specs.declared.refusal.TableRefusal.the-variants.{CountTooLarge, NoHunksOfSide, SideFull, RangeOutside, HunkEmpty, NotBehindLast, NothingHeld}
 
 -- The place of a sheet, and that of a hunk's range.
 abbrev pub side-place : Side → ℕ

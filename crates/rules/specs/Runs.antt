@@ -1,24 +1,18 @@
--- Runs: what two handhelds agree on after any two runs of calls.
-use Prim.Native.Nat.{ℕ, _≤_}
-use mathlib.Core.Path.{_≡_}
-use mathlib.Core.List.{List, [], _∷_, _++_, map}
-use lib.ListN.{length}
-use Rattle.std.specs.shelf.Lists.{All}
-use Rattle.rules.specs.declared.hunk.Side.{Side}
-use Rattle.rules.specs.declared.hunk.Hunk.{Hunk}
-use Rattle.rules.specs.declared.mode.Resolution.{Resolution}
-use Rattle.rules.specs.Hunks.{Sheets}
-use Rattle.rules.specs.Pieces.{Chunk}
-use Rattle.rules.specs.Agreement.{facing-side, exchanged-hunk, exchanged-sheets, Alike}
-use Rattle.rules.specs.Laws.{Laws}
-use Rattle.rules.specs.Lengths.{Length-law}
+-- Runs of calls: opens, enters, withdrawals and renders in any order, accepted or refused.
+use Rattle.std.specs.declared.result.Result.the-variants.{Ok, Err}
+use mathlib.Core.Bool.{Bool, cond, true, false}
 use Rattle.std.specs.declared.result.Result.{Result}
-use Rattle.std.specs.declared.result.Result.the-variants.{Ok}
+use Prim.Native.Nat.{ℕ, zero, suc}
+use mathlib.Core.List.{List, [], _∷_, _++_}
+use lib.ListN.{length}
+use Rattle.rules.specs.declared.hunk.Hunk.{Hunk}
+use Rattle.rules.specs.declared.hunk.Side.{Side}
+use Rattle.rules.specs.declared.mode.Resolution.{Resolution}
+use Rattle.rules.specs.declared.refusal.RenderRefusal.{RenderRefusal}
 use Rattle.rules.specs.declared.refusal.TableRefusal.{TableRefusal}
-use Rattle.rules.specs.Limits.{max-lines}
-use Rattle.rules.specs.Tables.{Held, new-table, open-after, enter-after, enter-answer, withdraw-after, withdraw-answer}
-use Rattle.rules.specs.TableLaws.{Table-rules, Table-keeps, Keeps-law}
-use Rattle.rules.specs.Renders.{Asked, render-answer, Counted, Render-rules}
+use Rattle.rules.specs.Hunks.{Sheets}
+use Rattle.rules.specs.Tables.{Held, new-table, open-after, enter-after, withdraw-after, enter-answer, open-answer, same-side, withdraw-answer}
+use Rattle.rules.specs.Renders.{Asked, render-answer}
 
 -- A call. A render is of any three sheets, and leaves the table as it is.
 pub data Call : Type 0 where
@@ -41,10 +35,7 @@ after-calls t (x ∷ xs) = after-calls (after-call t x) xs
 abbrev pub after-run : List Call → Held
 after-run = after-calls new-table
 
-abbrev pub Tables-keep : Type 0
-Tables-keep = (xs : List Call) → Table-keeps (after-run xs)
-
--- A handheld's run: any calls, then an opening with the counts of its sheets, and since then no opening.
+-- A unit's run: any calls, then an opening with the counts of its sheets, and since then no opening.
 abbrev pub opening : Sheets → Call
 opening s = open-with (length (s .ancestor)) (length (s .current)) (length (s .other))
 
@@ -54,78 +45,52 @@ No-opening (enter h) = Unit {0}
 No-opening (withdraw side) = Unit {0}
 No-opening (render s a) = Unit {0}
 
-pub record Few-lines (s : Sheets) : Type 0 where
-  pub ancestor : length (s .ancestor) ≤ max-lines
-  pub current : length (s .current) ≤ max-lines
-  pub other : length (s .other) ≤ max-lines
+-- What a call answers.
+pub data Answer : Type 0 where
+  opened-as : Result (Unit {0}) TableRefusal → Answer
+  counted-as : Result ℕ TableRefusal → Answer
+  judged-as : Result Resolution RenderRefusal → Answer
 
--- The second table holds the first one's hunks, sides exchanged.
-abbrev pub Holds-exchanged : Held → Held → Type 0
-Holds-exchanged t t′ = (t′ .current ≡ map exchanged-hunk (t .other)) × (t′ .other ≡ map exchanged-hunk (t .current))
+abbrev pub answer : Held → Call → Answer
+answer t (open-with a c o) = opened-as (open-answer a c o)
+answer t (enter h) = counted-as (enter-answer t h)
+answer t (withdraw side) = counted-as (withdraw-answer t side)
+answer t (render s a) = judged-as (render-answer t s a)
 
--- The same calls, sides exchanged. Given them, the second handheld answers each enter and withdrawal as the first, and holds the same hunks, sides exchanged.
-abbrev pub exchanged-call : Call → Call
-exchanged-call (open-with a c o) = open-with a o c
-exchanged-call (enter h) = enter (exchanged-hunk h)
-exchanged-call (withdraw side) = withdraw (facing-side side)
-exchanged-call (render s a) = render (exchanged-sheets s) a
-
-abbrev pub answers : Held → List Call → List (Result ℕ TableRefusal)
+abbrev pub answers : Held → List Call → List Answer
 answers t [] = []
-answers t (open-with a c o ∷ xs) = answers (open-after t a c o) xs
-answers t (enter h ∷ xs) = enter-answer t h ∷ answers (enter-after t h) xs
-answers t (withdraw side ∷ xs) = withdraw-answer t side ∷ answers (withdraw-after t side) xs
-answers t (render s a ∷ xs) = answers t xs
+answers t (x ∷ xs) = answer t x ∷ answers (after-call t x) xs
 
-pub record Same-calls (xs : List Call) : Type 0 where
-  pub same-answers : answers new-table (map exchanged-call xs) ≡ answers new-table xs
-  pub same-hunks : Holds-exchanged (after-run xs) (after-run (map exchanged-call xs))
+-- A run as its calls, each with whether it was accepted.
+abbrev pub is-ok : {A R : Type 0} → Result A R → Bool
+is-ok (Ok x) = true
+is-ok (Err r) = false
 
-abbrev pub Same-calls-same-hunks : Type 0
-Same-calls-same-hunks = (xs : List Call) → Same-calls xs
+abbrev pub accepts : Answer → Bool
+accepts (opened-as x) = is-ok x
+accepts (counted-as x) = is-ok x
+accepts (judged-as x) = is-ok x
 
--- A run begins with a new table, and each further call leaves what its own rule says.
-pub record Call-laws (xs : List Call) : Type 0 where
-  pub begun : after-run [] ≡ new-table
-  pub opened-next : (a c o : ℕ) → after-run (xs ++ (open-with a c o ∷ [])) ≡ open-after (after-run xs) a c o
-  pub entered-next : (h : Hunk) → after-run (xs ++ (enter h ∷ [])) ≡ enter-after (after-run xs) h
-  pub withdrawn-next : (side : Side) → after-run (xs ++ (withdraw side ∷ [])) ≡ withdraw-after (after-run xs) side
-  pub rendered-next : (s : Sheets) (a : Asked) → after-run (xs ++ (render s a ∷ [])) ≡ after-run xs
+pub record Made-call : Type 0 where
+  pub call : Call
+  pub accepted : Bool
 
--- Two handhelds, the second with the sheets of current and other exchanged.
-pub record Agreement-after (s : Sheets) (t t′ : Held) : Type 0 where
-  -- what holds of each one's renderings
-  pub first : Laws s (t .current) (t .other)
-  pub second : Laws (exchanged-sheets s) (t′ .current) (t′ .other)
-  pub first-short : Length-law s (t .current) (t .other)
-  pub second-short : Length-law (exchanged-sheets s) (t′ .current) (t′ .other)
-  -- whenever they hold the same hunks, sides exchanged, they show the same
-  pub alike : Holds-exchanged t t′ → Alike s (t .current) (t .other) (t′ .current) (t′ .other)
+abbrev pub made-calls : Held → List Call → List Made-call
+made-calls t [] = []
+made-calls t (x ∷ xs) = record { call = x; accepted = accepts (answer t x) } ∷ made-calls (after-call t x) xs
 
--- Over runs from a new table, of any calls, accepted or refused; a front of a run is a run, so all this holds after each call. The two handhelds
--- have sinks of their own: values of V and of V′, each with a rule for one more piece and a fresh value.
-pub record Agreement-over-runs (V : Type 0) (rule : V → Chunk → V) (fresh : V) (V′ : Type 0) (rule′ : V′ → Chunk → V′) (fresh′ : V′) : Type 0 where
-  -- the table: what it keeps, and what its calls answer and leave
-  pub keeps : (xs : List Call) → Table-keeps (after-run xs)
-  pub keeps-test : Keeps-law
-  pub rules : (xs : List Call) → Table-rules (after-run xs)
-  pub calls : (xs : List Call) → Call-laws xs
-  pub same-calls : (xs : List Call) → Same-calls xs
-  -- size and render, of any three sheets
-  pub renders : (xs : List Call) (s : Sheets) → Render-rules V rule fresh (after-run xs) s
-  pub renders′ : (xs : List Call) (s : Sheets) → Render-rules V′ rule′ fresh′ (after-run xs) s
-  -- a table has the counts of the sheets whenever it was opened with them and not again since, and whenever a render of them is accepted
-  pub since-opening : (s : Sheets) (xs ys : List Call) → Few-lines s → All No-opening ys → Counted s (after-run (xs ++ (opening s ∷ ys)))
-  pub when-accepted : (s : Sheets) (xs : List Call) (a : Asked) (v : Resolution) → render-answer (after-run xs) s a ≡ Ok v → Counted s (after-run xs)
-  -- two handhelds whose tables have the counts of their sheets, each after a run of its own
-  pub agree : (s : Sheets) (xs ys : List Call) → Counted s (after-run xs) → Counted (exchanged-sheets s) (after-run ys) → Agreement-after s (after-run xs) (after-run ys)
+-- The hunks of a side that were entered and not withdrawn, read off the calls alone, from the last one back: an accepted withdrawal takes off the
+-- accepted enter before it that none behind it has taken off, n of them being taken off by calls behind; an accepted opening ends the reading.
+abbrev pub entered-ahead : ℕ → Hunk → (ℕ → List Hunk) → List Hunk
+entered-ahead zero h ahead = ahead 0 ++ (h ∷ [])
+entered-ahead (suc n) h ahead = ahead n
 
--- At two kinds of sink: one that keeps the pieces, and one that keeps their bytes.
-abbrev pub one-more : List Chunk → Chunk → List Chunk
-one-more cs c = cs ++ (c ∷ [])
+abbrev pub standing-by : Side → ℕ → Call → (ℕ → List Hunk) → List Hunk
+standing-by side n (open-with a c o) ahead = []
+standing-by side n (enter h) ahead = cond (same-side (h .side) side) (entered-ahead n h ahead) (ahead n)
+standing-by side n (withdraw from) ahead = cond (same-side from side) (ahead (suc n)) (ahead n)
+standing-by side n (render s a) ahead = ahead n
 
-abbrev pub more-bytes : List ℕ → Chunk → List ℕ
-more-bytes bs c = bs ++ c .bytes
-
-abbrev pub Handhelds-agree-over-runs : Type 0
-Handhelds-agree-over-runs = Agreement-over-runs (List Chunk) one-more [] (List ℕ) more-bytes []
+abbrev pub standing : Side → ℕ → List Made-call → List Hunk
+standing side n [] = []
+standing side n (x ∷ xs) = cond (x .accepted) (standing-by side n (x .call) (λ m. standing side m xs)) (standing side n xs)

@@ -1,4 +1,5 @@
 -- The laws of the hunk table, in words.
+use Rattle.std.specs.declared.option.Option.the-variants.{Some, None}
 use Prim.Native.Nat.{ℕ, _+_, _-_, _≤_, _<_}
 use mathlib.Core.Path.{_≡_}
 use mathlib.Core.Bool.{true}
@@ -7,16 +8,16 @@ use mathlib.Core.Logic.{_⊎_}
 use Rattle.std.specs.declared.result.Result.the-variants.{Ok, Err}
 use lib.ListN.{length}
 use Rattle.std.specs.shelf.Lists.{All}
+use Rattle.rules.specs.declared.hunk.Hunk.{Hunk}
 use Rattle.rules.specs.declared.hunk.Side.{Side}
 use Rattle.rules.specs.declared.hunk.Side.the-variants.{Current, Other}
 use Rattle.rules.specs.declared.hunk.Span.{Span}
-use Rattle.rules.specs.declared.hunk.Hunk.{Hunk}
 use Rattle.rules.specs.declared.refusal.TableRefusal.{TableRefusal}
 use Rattle.rules.specs.Limits.{max-lines, max-hunks}
 use Rattle.rules.specs.Questions.{Question}
 use Rattle.rules.specs.Refusals.{Table-refuses}
-use Rattle.rules.specs.Agreement.{In-order}
-use Rattle.rules.specs.Tables.{Held, opened, held-of, count-of, holding, open-answer, open-after, enter-answer, enter-after, withdraw-answer, withdraw-after, keeps}
+use Rattle.rules.specs.Tables.{Held, opened, held-of, count-of, holding, open-answer, open-after, enter-answer, enter-after, withdraw-answer, withdraw-after, keeps, held-at}
+use Rattle.rules.specs.Order.{In-order}
 
 -- The rules of enter, in numbers.
 abbrev pub Two-sided : Side → Type 0
@@ -88,6 +89,9 @@ pub record Table-rules (t : Held) : Type 0 where
   pub open-told : (a c o : ℕ) → Open-told a c o
   pub enter-told : (h : Hunk) → Enter-told t h
   pub withdraw-told : (side : Side) → Withdraw-told t side
+  -- each hunk held is shown at its place, and nothing behind the last
+  pub shown : (side : Side) (gs : List Hunk) (h : Hunk) (hs : List Hunk) → held-of t side ≡ gs ++ (h ∷ hs) → held-at t side (length gs) ≡ Some h
+  pub not-shown : (side : Side) (n : ℕ) → length (held-of t side) ≤ n → held-at t side n ≡ None
   -- an accepted enter, then a withdrawal of its side, leave the table as it was
   pub undone : (h : Hunk) (n : ℕ) → enter-answer t h ≡ Ok n → withdraw-after (enter-after t h) (h .side) ≡ t
 

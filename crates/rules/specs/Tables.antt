@@ -8,10 +8,10 @@ use Rattle.std.specs.declared.result.Result.{Result}
 use Rattle.std.specs.shelf.Maps.{nth}
 use lib.ListN.{length, take}
 use lib.Dec.{leb, ltb}
+use Rattle.rules.specs.declared.hunk.Hunk.{Hunk}
 use Rattle.rules.specs.declared.hunk.Side.{Side}
 use Rattle.rules.specs.declared.hunk.Side.the-variants.{Current, Other, Ancestor}
 use Rattle.rules.specs.declared.hunk.Span.{Span}
-use Rattle.rules.specs.declared.hunk.Hunk.{Hunk}
 use Rattle.rules.specs.declared.refusal.HunkRange.the-variants.{Before, After}
 use Rattle.rules.specs.declared.refusal.TableRefusal.{TableRefusal}
 use Rattle.rules.specs.declared.refusal.TableRefusal.the-variants.{CountTooLarge, NoHunksOfSide, SideFull, RangeOutside, HunkEmpty, NotBehindLast, NothingHeld}
