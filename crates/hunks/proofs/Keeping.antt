@@ -5,7 +5,7 @@ use lib.ListN.{length}
 use Rattle.rules.specs.declared.hunk.Side.the-variants.{Current, Other}
 use Rattle.rules.specs.Limits.{max-hunks}
 use Rattle.rules.specs.TableLaws.{Table-keeps}
-use Rattle.rules.proofs.Tables.{keeps-law}
+use Rattle.rules.proofs.TableKeeps.{keeps-law}
 use Rattle.hunks.specs.declared.list.HunkList.{HunkList}
 use Rattle.hunks.specs.declared.table.HunkTable.{HunkTable}
 use Rattle.hunks.specs.Lists.{held}

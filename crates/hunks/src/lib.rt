@@ -1,6 +1,5 @@
 //! The hunks held of two sheets against their ancestor.
 
 pub mod list;
-pub mod refusal;
 pub mod run;
 pub mod table;

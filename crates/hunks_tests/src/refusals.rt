@@ -1,8 +1,5 @@
 //! Every refusal with its number, layer and place, and that it leaves the table as it was.
 use crate::hunk;
-use hunks::refusal::layer;
-use hunks::refusal::number;
-use hunks::refusal::place;
 use hunks::table::HunkTable;
 use rules::hunk::Hunk;
 use rules::hunk::HunkDebug;
@@ -37,13 +34,13 @@ fn untouched(t: &HunkTable) -> Result<(), Fail> {
     check_eq(t.held(Side::Other, 0), Some(hunk(Side::Other, 0, 0, 0, 1)))
 }
 
-fn tells<T: Drop>(answer: Result<T, TableRefusal>, n: u8, p: u32) -> Result<(), Fail> {
+fn tells<T: Drop>(answer: Result<T, TableRefusal>, n: u32, p: u32) -> Result<(), Fail> {
     match answer {
         Ok(_) => check(false),
         Err(refusal) => {
-            check_eq(number(refusal), n)?;
-            check_eq(place(refusal), p)?;
-            check_eq(layer(refusal), Layer::Table)
+            check_eq(refusal.number(), n)?;
+            check_eq(refusal.place(), p)?;
+            check_eq(refusal.layer(), Layer::Table)
         }
     }
 }
@@ -54,7 +51,7 @@ fn refused_open(ancestor: u32, current: u32, other: u32, p: u32) -> Result<(), F
     untouched(&t)
 }
 
-fn refused(hunk: Hunk, n: u8, p: u32) -> Result<(), Fail> {
+fn refused(hunk: Hunk, n: u32, p: u32) -> Result<(), Fail> {
     let mut t = table();
     tells(t.enter(hunk), n, p)?;
     untouched(&t)

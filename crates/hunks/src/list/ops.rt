@@ -42,7 +42,7 @@ impl<const N: usize> HunkList<N> {
     pub fn len(&self) -> usize
         ensures { λ r. ⌜ r ≡ length (held (now (self .entry))) ⌝ }
     {
-        self.len
+        self.as_slice().len()
     }
 
     /// Hunk i, or nothing past the last.
