@@ -62,6 +62,13 @@ pub struct GivenHunk {
     pub after: Range<u32>,
 }
 
+impl GivenHunk {
+    /// Whether neither starts behind the other's end, in the ancestor.
+    pub fn touches(&self, other: &GivenHunk) -> bool {
+        self.before.start <= other.before.end && other.before.start <= self.before.end
+    }
+}
+
 #[derive(Debug, Clone, Default)]
 pub struct GivenLabels {
     pub ancestor: Option<Vec<u8>>,

@@ -11,7 +11,7 @@ mod table;
 use std::io::{self, Write};
 
 const USAGE: &str = "oracle-tool random SEED COUNT          cases at random
-oracle-tool every LINES                every case of so many lines in all
+oracle-tool every LINES [endings] [fitting]   every case of so many lines in all that has a group
 oracle-tool differ FILE FILE           where two files of answers differ, the smallest case of each mode and kind
 oracle-tool table FILE PER_FILE DIR    answers as equations for the prover
 oracle-tool mend ROOT FILE..           replace texts below ROOT";
@@ -21,7 +21,11 @@ fn main() -> Result<(), String> {
     let words: Vec<&str> = words.iter().map(String::as_str).collect();
     match words.as_slice() {
         ["random", seed, count] => print_all(random::cases(number(seed)?, number(count)?)),
-        ["every", lines] => print_all(every::cases(number(lines)? as usize)),
+        ["every", lines, how @ ..] => print_all(every::cases(every::Wanted {
+            lines: number(lines)? as usize,
+            endings: how.contains(&"endings"),
+            fitting: how.contains(&"fitting"),
+        })),
         ["differ", left, right] => differ::report(left, right),
         ["table", answers, per_file, folder] => table::write(answers, number(per_file)? as usize, folder),
         ["mend", root, mends @ ..] => mends.iter().try_for_each(|file| mend::apply(root, file)),

@@ -32,12 +32,14 @@ impl Dice {
 
 type Line = &'static [u8];
 
-/// The lines that a case may have: letters alone, or also carriage returns and empty lines.
-const ALPHABETS: [&[Line]; 5] = [
+/// The lines that a case may have, some more often than others: letters alone, or also carriage returns and empty lines.
+const ALPHABETS: [&[Line]; 7] = [
     &[b"a\n", b"b\n"],
     &[b"a\n", b"b\n", b"c\n"],
-    &[b"a\r\n", b"b\n"],
+    &[b"a\n", b"a\n", b"a\n", b"b\n"],
+    &[b"a\r\n", b"a\r\n", b"b\n"],
     &[b"a\r\n", b"a\n", b"\n"],
+    &[b"a\n", b"a\n", b"a\r\n", b"\n"],
     &[b"a\n", b"\r\n", b"\n", b"b\r\n"],
 ];
 
@@ -46,16 +48,22 @@ pub fn cases(seed: u64, count: u64) -> impl Iterator<Item = Case> {
     (1..=count).map(move |n| {
         loop {
             let case = one(&mut dice, &format!("random-{seed}-{n}"));
-            if case.broken_rule().is_none() && !(case.current_hunks.is_empty() && case.other_hunks.is_empty()) {
+            if case.broken_rule().is_none() && (has_group(&case) || dice.one_in(8)) {
                 break case;
             }
         }
     })
 }
 
+fn has_group(case: &Case) -> bool {
+    case.current_hunks
+        .iter()
+        .any(|c| case.other_hunks.iter().any(|o| c.touches(o)))
+}
+
 fn one(dice: &mut Dice, name: &str) -> Case {
     let alphabet = dice.pick(&ALPHABETS);
-    let ancestor = some_lines(dice, alphabet, 5);
+    let ancestor = some_lines(dice, alphabet, 6);
     let (current, current_hunks) = side(dice, alphabet, &ancestor);
     let (other, other_hunks) = side(dice, alphabet, &ancestor);
     let mut case = Case::new(name);
@@ -79,7 +87,7 @@ fn some_lines(dice: &mut Dice, alphabet: &[Line], most: u64) -> Vec<Line> {
 /// A side's sheet and hunks: the hunks put into the ancestor, or, one time in three, any sheet and any hunks.
 fn side(dice: &mut Dice, alphabet: &[Line], ancestor: &[Line]) -> (Vec<Line>, Vec<GivenHunk>) {
     if dice.one_in(3) {
-        let sheet = some_lines(dice, alphabet, 5);
+        let sheet = some_lines(dice, alphabet, 6);
         let hunks = any_hunks(dice, ancestor.len() as u32, sheet.len() as u32);
         return (sheet, hunks);
     }
@@ -89,7 +97,11 @@ fn side(dice: &mut Dice, alphabet: &[Line], ancestor: &[Line]) -> (Vec<Line>, Ve
     while let Some(before) = next_range(dice, done, hunks.is_empty(), ancestor.len() as u32) {
         sheet.extend_from_slice(&ancestor[done as usize..before.start as usize]);
         let start = sheet.len() as u32;
-        sheet.extend(some_lines(dice, alphabet, 2));
+        sheet.extend(changed(
+            dice,
+            alphabet,
+            &ancestor[before.start as usize..before.end as usize],
+        ));
         let after = start..sheet.len() as u32;
         done = before.end;
         if before.is_empty() && after.is_empty() {
@@ -101,12 +113,22 @@ fn side(dice: &mut Dice, alphabet: &[Line], ancestor: &[Line]) -> (Vec<Line>, Ve
     (sheet, hunks)
 }
 
+/// What stands in the place of some lines: new ones, or the same with some left out and some doubled.
+fn changed(dice: &mut Dice, alphabet: &[Line], lines: &[Line]) -> Vec<Line> {
+    if lines.is_empty() || dice.one_in(2) {
+        let most = length(dice);
+        return some_lines(dice, alphabet, most);
+    }
+    let mut times = || dice.pick(&[0, 1, 1, 1, 2, 2]);
+    lines.iter().flat_map(|line| vec![*line; times()]).collect()
+}
+
 fn any_hunks(dice: &mut Dice, ancestor: u32, lines: u32) -> Vec<GivenHunk> {
     let mut hunks: Vec<GivenHunk> = Vec::new();
     let (mut done, mut shown) = (0, 0);
     while let Some(before) = next_range(dice, done, hunks.is_empty(), ancestor) {
         let start = lines.min(shown + dice.below(2) as u32);
-        let after = start..lines.min(start + dice.below(3) as u32);
+        let after = start..lines.min(start + length(dice) as u32);
         (done, shown) = (before.end, after.end);
         if !(before.is_empty() && after.is_empty()) {
             hunks.push(GivenHunk { before, after });
@@ -121,7 +143,12 @@ fn next_range(dice: &mut Dice, done: u32, first: bool, lines: u32) -> Option<std
     if start > lines || dice.one_in(if first { 8 } else { 3 }) {
         return None;
     }
-    Some(start..lines.min(start + dice.below(3) as u32))
+    Some(start..lines.min(start + length(dice) as u32))
+}
+
+/// How many lines a range has at most: mostly few.
+fn length(dice: &mut Dice) -> u64 {
+    dice.pick(&[0, 0, 1, 1, 1, 2, 2, 3, 5])
 }
 
 /// The lines as one text; at times the last lacks its newline, and may then end in a bare carriage return.
