@@ -3,17 +3,19 @@ use Prim.Native.Nat.{ℕ, _≤_, _<_}
 use native.Mathlib.Omega.{arith}
 use mathlib.Core.Path.{_≡_, refl, sym, _∙_, ap, subst}
 use mathlib.Core.Logic.{⊎-elim}
-use mathlib.Core.Bool.{Bool, true, false}
+use mathlib.Core.Bool.{Bool, true, false, _&&_}
 use mathlib.Core.List.{List, [], _∷_, _++_, append-assoc, List·Memᴰ, List·Memᴰ·head, List·Memᴰ·tail, List·Memᴰ·cases-cons, List·Memᴰ·not-nil, List·Memᴰ·append-cases, List·Memᴰ·eq-of-singleton, Memᴰ·append-left, Memᴰ·append-right}
-use lib.Dec.{T}
+use lib.Dec.{T, leb}
 use lib.ListN.{length}
-use Rattle.std.proofs.shelf.Tests.{true≢false, cond-both}
-use Rattle.rules.specs.declared.hunk.Side.{Side}
-use Rattle.rules.specs.declared.hunk.Side.the-variants.{Current, Other}
+use Rattle.std.proofs.shelf.Tests.{true≢false, cond-both, false≢true}
 use Rattle.rules.specs.declared.hunk.Hunk.{Hunk}
-use Rattle.rules.specs.Hunks.{Sheets, touches, touches-any, walk}
-use Rattle.rules.specs.Groups.{Cluster, clusters, clusters-from, members, joined}
-use Rattle.rules.specs.Agreement.{Kept, Chain, here, by, all-members, Groups-are-chains}
+use Rattle.rules.specs.declared.hunk.Side.{Side}
+use Rattle.rules.specs.declared.hunk.Side.the-variants.{Current, Other, Ancestor}
+use Rattle.rules.specs.Hunks.{Sheets, touches, touches-any, opposite}
+use Rattle.rules.specs.Walk.{walk}
+use Rattle.rules.specs.Groups.{Cluster, clusters, clusters-from, members, joined, is-group}
+use Rattle.rules.specs.Order.{Kept}
+use Rattle.rules.specs.GroupLaws.{Chain, here, by, all-members, Groups-are-chains}
 use Rattle.rules.proofs.Woven.{Sided, Woven, Behind, next, next-start, behind-next, behind-self, past, untouched, touches-sym, any-false, any-true, woven-above, runs, walk-woven}
 
 abbrev pub alone : Hunk → Cluster
@@ -128,11 +130,39 @@ chained : (hs : List Hunk) (k : Cluster) → List·Memᴰ k (clusters hs) → Jo
 chained [] k m = absurd (List·Memᴰ·not-nil m)
 chained (h ∷ hs) k m = joined-from (h ∷ hs) (alone h) hs (λ g n. List·Memᴰ·tail n) (joined-alone (h ∷ hs) h (List·Memᴰ·head refl)) k m
 
+-- groups and lone hunks
+group-more : (k : Cluster) → is-group k ≡ true → (g h : Hunk) × (more : List Hunk) × (members k ≡ g ∷ (h ∷ more))
+group-more k = by (k .more) refl
+  where
+    by : (hs : List Hunk) → k .more ≡ hs → elim hs [ [] ↦ false | _∷_ h more ↦ true ] ≡ true → (g h : Hunk) × (more : List Hunk) × (members k ≡ g ∷ (h ∷ more))
+    by [] q e = absurd (false≢true e)
+    by (h ∷ more) q e = (k .first, h, more, ap (λ (x : List Hunk). k .first ∷ x) q)
+
+lone-one : (k : Cluster) → is-group k ≡ false → members k ≡ k .first ∷ []
+lone-one k = by (k .more) refl
+  where
+    by : (hs : List Hunk) → k .more ≡ hs → elim hs [ [] ↦ false | _∷_ h more ↦ true ] ≡ false → members k ≡ k .first ∷ []
+    by [] q e = ap (λ (x : List Hunk). k .first ∷ x) q
+    by (h ∷ more) q e = absurd (true≢false e)
+
+not-opposite : (a : Side) → opposite a a ≡ false
+not-opposite Current = refl
+not-opposite Other = refl
+not-opposite Ancestor = refl
+
+self-untouched : (h : Hunk) → T (touches h h) → ⊥
+self-untouched h t = true≢false (sym (T-to (touches h h) t) ∙ ap (λ (b : Bool). b && (leb (h .before .start) (h .before .end) && leb (h .before .start) (h .before .end))) (not-opposite (h .side)))
+
 pub chains-of-woven : (b : Side → ℕ) (hs : List Hunk) → Woven b hs → Groups-are-chains hs
-chains-of-woven b hs w = record { parted = parted hs; chained = chained hs; apart = apart; stays = stays }
+chains-of-woven b hs w = record { parted = parted hs; chained = chained hs; apart = apart; stays = stays; group = group-more; alone = lone-one; lone = lone }
   where
     apart : (k : Cluster) → List·Memᴰ k (clusters hs) → (g h : Hunk) → List·Memᴰ g (members k) → List·Memᴰ h hs → T (touches g h) → List·Memᴰ h (members k)
     apart k mk g h mg mh t = apart-in (clusters hs) (cut b hs w) k mk g h mg (subst (λ (l : List Hunk). List·Memᴰ h l) (sym (parted hs)) mh) t
+
+    lone : (k : Cluster) → List·Memᴰ k (clusters hs) → is-group k ≡ false → (h : Hunk) → List·Memᴰ h hs → T (touches (k .first) h) → ⊥
+    lone k mk e h mh t =
+        let m = subst (λ (l : List Hunk). List·Memᴰ h l) (lone-one k e) (apart k mk (k .first) h (List·Memᴰ·head refl) mh t) in
+        self-untouched (k .first) (subst (λ (x : Hunk). T (touches (k .first) x)) (List·Memᴰ·eq-of-singleton m) t)
 
     along : (k : Cluster) → List·Memᴰ k (clusters hs) → {g h : Hunk} → Chain hs g h → List·Memᴰ g (members k) → List·Memᴰ h (members k)
     along k mk (here m) mg = mg

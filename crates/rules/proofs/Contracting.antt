@@ -8,14 +8,16 @@ use lib.ListN.{length, take, drop}
 use Rattle.std.specs.shelf.Lists.{All}
 use Rattle.std.proofs.shelf.Tests.{true≢false, false≢true, or-parts, not-false, cases-bool}
 use Rattle.rules.specs.declared.hunk.Hunk.{Hunk}
-use Rattle.rules.specs.Lines.{Line, shared-front, same-lines}
-use Rattle.rules.specs.Hunks.{Sheets, side-lines, is-current}
-use Rattle.rules.specs.Groups.{Cluster, ours-of, theirs-of}
-use Rattle.rules.specs.Contraction.{Contracted, contracted, trimmed, shared-back, cut-front}
-use Rattle.rules.specs.Rendering.{Sides, contracted-by, contracted-sides, line-left, no-line}
-use Rattle.rules.specs.Outline.{shared-start, past-start, before-end, at-end, middle, shared-end, ours-lines, theirs-lines}
-use Rattle.rules.proofs.Shared.{front-sym, start-sym, end-sym, equal-middle, no-middle, same-lines-true, same-lines-refl}
+use Rattle.rules.specs.Lines.{Line, same-lines}
+use Rattle.rules.specs.SharedLines.{shared-front, shared-back, shared-start, past-start, before-end, at-end, middle, shared-end}
+use Rattle.rules.specs.Hunks.{Sheets, side-lines}
+use Rattle.rules.specs.Walk.{is-current}
+use Rattle.rules.specs.Groups.{Cluster}
+use Rattle.rules.specs.Filling.{ours-of, theirs-of, ours-lines, theirs-lines}
+use Rattle.rules.specs.Contraction.{Contracted, contracted, trimmed, cut-front}
+use Rattle.rules.specs.Sides.{Sides, contracted-by, contracted-sides, line-left, no-line}
 use Rattle.rules.proofs.Cuts.{Whole, front-splits, back-splits}
+use Rattle.rules.proofs.Shared.{front-sym, start-sym, end-sym, equal-middle, no-middle, same-lines-true, same-lines-refl}
 
 pub record Trimmed-lines (s : Sheets) (la lb : List Line) (c : Contracted) : Type 0 where
   pub lead : side-lines s (c .lead) ≡ before-end la lb
@@ -79,21 +81,21 @@ neither-line ls rs e =
     let p = or-parts (not (no-line ls)) (not (no-line rs)) e in
     (no-line-true ls (not-false (no-line ls) (p .0)), no-line-true rs (not-false (no-line rs) (p .1)))
 
-pub nothing-left : (s : Sheets) (d : Sides) → line-left s d ≡ false → (side-lines s (d .left) ≡ []) × (side-lines s (d .right) ≡ [])
+pub nothing-left : (s : Sheets) (d : Sides) → line-left s (d .left) (d .right) ≡ false → (side-lines s (d .left) ≡ []) × (side-lines s (d .right) ≡ [])
 nothing-left s d e = neither-line (side-lines s (d .left)) (side-lines s (d .right)) e
 
-pub left-is : (s : Sheets) (xs ys : List Line) (d : Sides) → Sides-lines s xs ys d → line-left s d ≡ not (same-lines xs ys)
+pub left-is : (s : Sheets) (xs ys : List Line) (d : Sides) → Sides-lines s xs ys d → line-left s (d .left) (d .right) ≡ not (same-lines xs ys)
 left-is s xs ys d p = by (same-lines xs ys) refl
   where
-    by : (b : Bool) → same-lines xs ys ≡ b → line-left s d ≡ not b
+    by : (b : Bool) → same-lines xs ys ≡ b → line-left s (d .left) (d .right) ≡ not b
     by true e =
         let q = same-lines-true xs ys e in
         let a = p .left ∙ equal-middle xs ys q in
         let b = p .right ∙ equal-middle ys xs (sym q) in
         rw (a, b)
-    by false e = ⊎-elim (λ h. h) (λ h. absurd (no h)) (cases-bool (line-left s d))
+    by false e = ⊎-elim (λ h. h) (λ h. absurd (no h)) (cases-bool (line-left s (d .left) (d .right)))
       where
-        no : line-left s d ≡ false → ⊥
+        no : line-left s (d .left) (d .right) ≡ false → ⊥
         no h =
             let n = nothing-left s d h in
             let q = no-middle xs ys (sym (p .left) ∙ n .0) (sym (p .right) ∙ n .1) in

@@ -11,10 +11,10 @@ use lib.Dec.{leb, eqb}
 use Rattle.std.specs.shelf.Lists.{All}
 use Rattle.std.proofs.shelf.Lists.{drop-take}
 use Rattle.std.proofs.shelf.Tests.{leb-true, leb-false, eqb-true, and-parts, and-cases, not-false}
+use Rattle.rules.specs.declared.hunk.Hunk.{Hunk}
 use Rattle.rules.specs.declared.hunk.Side.{Side}
 use Rattle.rules.specs.declared.hunk.Side.the-variants.{Current, Other, Ancestor}
 use Rattle.rules.specs.declared.hunk.Span.{Span}
-use Rattle.rules.specs.declared.hunk.Hunk.{Hunk}
 use Rattle.rules.specs.Lines.{Line, between}
 use Rattle.rules.specs.Hunks.{Sheets, hunk-lines, lines-by, side-lines}
 use Rattle.rules.specs.Contraction.{read-range, size, reading, first-lines, later-lines, Cut, ahead-more, cut-here, cut-front, cut-back}

@@ -9,16 +9,17 @@ use lib.Dec.{leb}
 use lib.ListN.{length}
 use Rattle.std.proofs.shelf.Tests.{true≢false, le-leb, lt-leb, cond-both, cond-true, cond-false, cases-order, and-from, or-left}
 use Rattle.std.proofs.shelf.Elements.{kept-by-append}
+use Rattle.rules.specs.declared.hunk.Hunk.{Hunk}
 use Rattle.rules.specs.declared.hunk.Side.{Side}
 use Rattle.rules.specs.declared.hunk.Side.the-variants.{Current, Other, Ancestor}
-use Rattle.rules.specs.declared.hunk.Hunk.{Hunk}
-use Rattle.rules.specs.Hunks.{opposite, touches, touches-any, walk, currents, others, is-current, is-other}
+use Rattle.rules.specs.Hunks.{opposite, touches, touches-any}
+use Rattle.rules.specs.Walk.{walk, currents, others, is-current, is-other}
 use Rattle.rules.specs.Groups.{Cluster, clusters, clusters-from, members, joined, is-group, last-end}
-use Rattle.rules.specs.Agreement.{exchanged-hunk, facing-side}
-use Rattle.rules.specs.Grouping.{Pairwise, Exchanged, Exchange-keeps-groups}
-use Rattle.rules.proofs.Woven.{Sided, Woven, Behind, next, behind-next, behind-self, untouched, touches-sym, any-none, Run, runs, walk-woven}
+use Rattle.rules.specs.Exchange.{exchanged-hunk, facing-side}
+use Rattle.rules.specs.GroupLaws.{Pairwise, Exchanged, Exchange-keeps-groups}
 use Rattle.rules.proofs.Chains.{alone, behind-alone, behind-joined}
 use Rattle.rules.proofs.Picked.{any-others, any-currents}
+use Rattle.rules.proofs.Woven.{Sided, Woven, Behind, next, behind-next, behind-self, untouched, touches-sym, any-none, Run, runs, walk-woven}
 
 -- two walks that differ by the exchange and by the order of hunks with equal starts
 data Swapped : List Hunk → List Hunk → Type 0 where

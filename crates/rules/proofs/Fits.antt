@@ -8,14 +8,16 @@ use lib.ListN.{length, length-take, length-drop}
 use lib.Dec.{leb, ltb}
 use Rattle.std.specs.shelf.Lists.{All}
 use Rattle.std.proofs.shelf.Elements.{all-append, all-push, all-weaker, all-kept-by}
-use Rattle.rules.specs.declared.hunk.Side.the-variants.{Current, Other, Ancestor}
 use Rattle.rules.specs.declared.hunk.Hunk.{Hunk}
+use Rattle.rules.specs.declared.hunk.Side.the-variants.{Current, Other, Ancestor}
 use Rattle.rules.specs.Lines.{Line, between}
-use Rattle.rules.specs.Hunks.{Sheets, touches-any, walk, walk-from, currents, others, is-current, is-other}
-use Rattle.rules.specs.Groups.{Cluster, members, joined, clusters, clusters-from, last-end, from, to, stretch, filled, ours-of, theirs-of}
-use Rattle.rules.specs.Agreement.{In-order, Kept}
-use Rattle.rules.proofs.Woven.{Sided}
+use Rattle.rules.specs.Hunks.{Sheets, touches-any}
+use Rattle.rules.specs.Walk.{walk, walk-from, currents, others, is-current, is-other}
+use Rattle.rules.specs.Groups.{Cluster, members, joined, clusters, clusters-from, last-end, from, to}
+use Rattle.rules.specs.Filling.{stretch, filled, ours-of, theirs-of}
+use Rattle.rules.specs.Order.{In-order, Kept}
 use Rattle.rules.proofs.Cuts.{Whole}
+use Rattle.rules.proofs.Woven.{Sided}
 
 pub between-length : (ls : List Line) (a b : ℕ) → b ≤ length ls → length (between ls a b) ≡ b - a
 between-length ls a b h = rw (length-take, length-drop) (omega arith)

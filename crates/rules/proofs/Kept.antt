@@ -7,14 +7,14 @@ use mathlib.Core.List.{List, [], _∷_}
 use lib.Dec.{leb}
 use Rattle.std.proofs.shelf.Tests.{leb-true, leb-false, le-leb, cond-both, cond-true, or-left}
 use Rattle.std.specs.shelf.Lists.{kept-by}
+use Rattle.rules.specs.declared.hunk.Hunk.{Hunk}
 use Rattle.rules.specs.declared.hunk.Side.{Side}
 use Rattle.rules.specs.declared.hunk.Side.the-variants.{Current, Other}
-use Rattle.rules.specs.declared.hunk.Hunk.{Hunk}
-use Rattle.rules.specs.Hunks.{touches-any, walk, currents, others, is-current, is-other}
-use Rattle.rules.specs.Agreement.{lone-ones}
-use Rattle.rules.proofs.Woven.{Run, run-side}
-use Rattle.rules.proofs.Picked.{kept-same, kept-all, kept-none, any-others, any-currents}
+use Rattle.rules.specs.Hunks.{touches-any, lone-ones}
+use Rattle.rules.specs.Walk.{walk, currents, others, is-current, is-other}
 use Rattle.rules.proofs.Exchange.{Headed, second-first}
+use Rattle.rules.proofs.Picked.{kept-same, kept-all, kept-none, any-others, any-currents}
+use Rattle.rules.proofs.Woven.{Run, run-side}
 
 -- every hunk starts at n or later
 abbrev pub Low : ℕ → List Hunk → Type 0

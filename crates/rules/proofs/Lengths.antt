@@ -10,32 +10,40 @@ use lib.ListN.{length, drop, length-append, length-replicate}
 use Rattle.std.specs.shelf.Lists.{All}
 use Rattle.std.proofs.shelf.Elements.{kept-by-append}
 use Rattle.std.proofs.shelf.Tests.{true≢false, false≢true, cond-both}
-use Rattle.rules.specs.Pieces.{Kind, common, ours, base, theirs, ending, total}
-use Rattle.rules.specs.declared.hunk.Side.{Side}
-use Rattle.rules.specs.declared.hunk.Side.the-variants.{Current, Other, Ancestor}
-use Rattle.rules.specs.declared.hunk.Hunk.{Hunk}
-use Rattle.rules.specs.declared.mode.ConflictStyle.{ConflictStyle}
-use Rattle.rules.specs.declared.mode.ConflictStyle.the-variants.{Merge, Diff3, ZealousDiff3}
-use Rattle.rules.specs.declared.mode.Conflict as modes
-use Rattle.rules.specs.declared.mode.Conflict.the-variants.{Keep, ResolveWithOurs, ResolveWithTheirs, ResolveWithUnion}
-use Rattle.rules.specs.Lines.{Line, between}
-use Rattle.rules.specs.Hunks.{Sheets, hunk-lines, side-lines, walk, currents, others, is-current, is-other}
-use Rattle.rules.specs.Groups.{Cluster, clusters, members, from, to, stretch, filled, ours-of, theirs-of, is-group}
 use Rattle.rules.specs.declared.ending.Ending.{Ending}
 use Rattle.rules.specs.declared.ending.Ending.the-variants.{Newline, ReturnNewline}
-use Rattle.rules.specs.Endings.{ending-of, or-newline, or-else}
-use Rattle.rules.specs.Rendering.{Labels, Step, put, close, each, marker-steps, Sides, whole-sides, contracted-sides, sides-in, blocked, line-left, before-block, base-lines, base-steps, block-steps, agreed-steps, keep-steps, marker-ending, back-close, union-steps, group-steps, cluster-steps, steps-from, open-after, pieces-of}
-use Rattle.rules.specs.Agreement.{In-order, Kept, all-members}
-use Rattle.rules.specs.Outline.{ours-lines, theirs-lines}
-use Rattle.rules.specs.Renders.{Size-fits, Label-fits}
+use Rattle.rules.specs.declared.hunk.Hunk.{Hunk}
+use Rattle.rules.specs.declared.hunk.Side.{Side}
+use Rattle.rules.specs.declared.hunk.Side.the-variants.{Current, Other, Ancestor}
+use Rattle.rules.specs.declared.mode.Conflict as modes
+use Rattle.rules.specs.declared.mode.Conflict.the-variants.{Keep, ResolveWithOurs, ResolveWithTheirs, ResolveWithUnion}
+use Rattle.rules.specs.declared.mode.ConflictStyle.{ConflictStyle}
+use Rattle.rules.specs.declared.mode.ConflictStyle.the-variants.{Merge, Diff3, ZealousDiff3}
+use Rattle.rules.specs.Limits.{max-marker-size}
+use Rattle.rules.specs.Lines.{Line, between}
+use Rattle.rules.specs.Hunks.{Sheets, hunk-lines, side-lines}
+use Rattle.rules.specs.Walk.{walk, currents, others, is-current, is-other}
+use Rattle.rules.specs.Groups.{Cluster, clusters, members, from, to, is-group}
+use Rattle.rules.specs.Filling.{stretch, filled, ours-of, theirs-of, ours-lines, theirs-lines, base-lines}
+use Rattle.rules.specs.Sides.{Sides, whole-sides, contracted-sides, sides-in, line-left}
+use Rattle.rules.specs.Endings.{ending-of, or-newline, ending-bytes}
+use Rattle.rules.specs.Pieces.{Kind, common, ours, base, theirs, ending, total}
+use Rattle.rules.specs.Steps.{Step, put, close, each, left-open, pieces-of}
+use Rattle.rules.specs.Markers.{Labels, marker-steps}
+use Rattle.rules.specs.Blocks.{blocked, base-steps, block-steps, agreed-steps, keep-steps, marker-ending}
+use Rattle.rules.specs.Unions.{back-close, union-steps}
+use Rattle.rules.specs.Rendering.{group-steps, cluster-steps, steps-from}
+use Rattle.rules.specs.Order.{In-order, Kept}
+use Rattle.rules.specs.GroupLaws.{all-members}
+use Rattle.rules.specs.RenderLaws.{Size-fits, Label-fits}
 use Rattle.rules.specs.Lengths.{bytes-of, Labels-fit, Length-law}
-use Rattle.rules.proofs.Fits.{Fit, kept-fit}
-use Rattle.rules.proofs.Woven.{Sided, Woven, Run, runs, walk-woven}
 use Rattle.rules.proofs.Chains.{Cut, cut, parted}
+use Rattle.rules.proofs.Fits.{Fit, kept-fit}
 use Rattle.rules.proofs.Kept.{Low, currents-walk, others-walk}
 use Rattle.rules.proofs.Texts.{between-more, between-rest, side-lines-append, stretch-lines, Within, low-each, low-zero, last-end-above, last-end-below, after, woven-parts, cluster-within, only-current, only-other}
-use Rattle.rules.proofs.Walks.{walk-length}
 use Rattle.rules.proofs.Unions.{contraction-law}
+use Rattle.rules.proofs.Walks.{walk-length}
+use Rattle.rules.proofs.Woven.{Sided, Woven, Run, runs, walk-woven}
 
 -- lines
 bytes-append : (a b : List Line) → bytes-of (a ++ b) ≡ bytes-of a + bytes-of b
@@ -123,14 +131,14 @@ group-two x (y ∷ ys) e = omega arith
 abbrev step-bytes : List Step → ℕ
 step-bytes [] = 0
 step-bytes (put c ∷ ss) = length (c .bytes) + step-bytes ss
-step-bytes (close e ∷ ss) = length e + step-bytes ss
+step-bytes (close e ∷ ss) = length (ending-bytes e) + step-bytes ss
 
 pieces-bytes : (o : Bool) (ss : List Step) → total (pieces-of o ss) ≤ step-bytes ss
 pieces-bytes o [] = omega arith
-pieces-bytes o (put c ∷ ss) = let e = pieces-bytes (open-after o (c .bytes)) ss in omega arith
+pieces-bytes o (put c ∷ ss) = let e = pieces-bytes (left-open o (c .bytes)) ss in omega arith
 pieces-bytes o (close e ∷ ss) =
     let p = pieces-bytes false ss in
-    cond-both o (record { kind = ending; bytes = e } ∷ pieces-of false ss) (pieces-of false ss) (λ cs. total cs ≤ length e + step-bytes ss) (λ _. omega arith) (λ _. omega arith)
+    cond-both o (record { kind = ending; bytes = ending-bytes e } ∷ pieces-of false ss) (pieces-of false ss) (λ cs. total cs ≤ length (ending-bytes e) + step-bytes ss) (λ _. omega arith) (λ _. omega arith)
 
 step-sum : (a b : List Step) → step-bytes (a ++ b) ≡ step-bytes a + step-bytes b
 step-sum [] b = omega arith
@@ -141,14 +149,19 @@ each-bytes : (k : Kind) (ls : List Line) → step-bytes (each k ls) ≡ bytes-of
 each-bytes k [] = refl
 each-bytes k (l ∷ ls) = let e = each-bytes k ls in omega arith
 
-newline-short : (x : Option Ending) → length (or-newline x) ≤ 2
-newline-short None = omega arith
-newline-short (Some Newline) = omega arith
-newline-short (Some ReturnNewline) = omega arith
+ending-short : (e : Ending) → length (ending-bytes e) ≤ 2
+ending-short Newline = omega arith
+ending-short ReturnNewline = omega arith
 
-marker-bytes : (c n : ℕ) (label : Option (List ℕ)) (nl : List ℕ) → n ≤ 255 → Label-fits label → length nl ≤ 2 → step-bytes (marker-steps c n label nl) ≤ 324
-marker-bytes c n None nl p q r = let e = length-replicate n c in omega arith
-marker-bytes c n (Some l) nl p q r = let e = length-replicate n c in omega arith
+marker-bytes : (c n : ℕ) (label : Option (List ℕ)) (nl : Ending) → n ≤ max-marker-size → Label-fits label → step-bytes (marker-steps c n label nl) ≤ 324
+marker-bytes c n None nl p q =
+    let e = length-replicate n c in
+    let r = ending-short nl in
+    omega arith
+marker-bytes c n (Some l) nl p q =
+    let e = length-replicate n c in
+    let r = ending-short nl in
+    omega arith
 
 -- a group's sides as a mode takes them hold no more than the sides
 record Shares (s : Sheets) (k : Cluster) (d : Sides) : Type 0 where
@@ -175,69 +188,69 @@ shares Diff3 s k fit = whole-shares s k
 shares ZealousDiff3 s k fit = contracted-shares s k fit
 
 module _ (s : Sheets) (l : Labels) (fits : Labels-fit l) where
-  base-bytes : (st : ConflictStyle) (n : ℕ) (k : Cluster) → n ≤ 255 → step-bytes (base-steps st s n l k) ≤ bytes-of (base-lines s k) + 324
+  base-bytes : (st : ConflictStyle) (n : ℕ) (k : Cluster) → n ≤ max-marker-size → step-bytes (base-steps st s n (l .ancestor) (from k) (to k)) ≤ bytes-of (base-lines s k) + 324
   base-bytes st n k p =
       let nl = or-newline (ending-of s (stretch (from k) (to k))) in
       let m = marker-steps 124 n (l .ancestor) nl in
       let e = step-sum m (each base (base-lines s k)) in
       let f = each-bytes base (base-lines s k) in
-      let g = marker-bytes 124 n (l .ancestor) nl p (fits .ancestor) (newline-short (ending-of s (stretch (from k) (to k)))) in
+      let g = marker-bytes 124 n (l .ancestor) nl p (fits .ancestor) in
       go st (omega arith)
     where
-      go : (st′ : ConflictStyle) → step-bytes (base-steps Diff3 s n l k) ≤ bytes-of (base-lines s k) + 324 → step-bytes (base-steps st′ s n l k) ≤ bytes-of (base-lines s k) + 324
+      go : (st′ : ConflictStyle) → step-bytes (base-steps Diff3 s n (l .ancestor) (from k) (to k)) ≤ bytes-of (base-lines s k) + 324 → step-bytes (base-steps st′ s n (l .ancestor) (from k) (to k)) ≤ bytes-of (base-lines s k) + 324
       go Merge e = omega arith
       go Diff3 e = e
       go ZealousDiff3 e = e
 
-  block-bytes : (st : ConflictStyle) (n : ℕ) (nl : List ℕ) (k : Cluster) (d : Sides) → n ≤ 255 → length nl ≤ 2
-      → step-bytes (block-steps st s n l nl k d) ≤ hunk-bytes s (d .left) + hunk-bytes s (d .right) + bytes-of (base-lines s k) + 1296
-  block-bytes st n nl k d p q =
+  block-bytes : (st : ConflictStyle) (n : ℕ) (nl : Ending) (k : Cluster) (d : Sides) → n ≤ max-marker-size
+      → step-bytes (block-steps st s n l nl (from k) (to k) (d .left) (d .right)) ≤ hunk-bytes s (d .left) + hunk-bytes s (d .right) + bytes-of (base-lines s k) + 1296
+  block-bytes st n nl k d p =
       let m60 = marker-steps 60 n (l .current) nl in
       let m61 = marker-steps 61 n None nl in
       let m62 = marker-steps 62 n (l .other) nl in
       let eo = each ours (side-lines s (d .left)) in
       let et = each theirs (side-lines s (d .right)) in
-      let bs = base-steps st s n l k in
+      let bs = base-steps st s n (l .ancestor) (from k) (to k) in
       let a = step-sum m60 (eo ++ (bs ++ (m61 ++ (et ++ m62)))) in
       let b = step-sum eo (bs ++ (m61 ++ (et ++ m62))) in
       let c = step-sum bs (m61 ++ (et ++ m62)) in
       let e = step-sum m61 (et ++ m62) in
       let f = step-sum et m62 in
-      let g = marker-bytes 60 n (l .current) nl p (fits .current) q in
-      let h = marker-bytes 61 n None nl p tt q in
-      let i = marker-bytes 62 n (l .other) nl p (fits .other) q in
+      let g = marker-bytes 60 n (l .current) nl p (fits .current) in
+      let h = marker-bytes 61 n None nl p tt in
+      let i = marker-bytes 62 n (l .other) nl p (fits .other) in
       let j = base-bytes st n k p in
       let x = each-bytes ours (side-lines s (d .left)) in
       let y = each-bytes theirs (side-lines s (d .right)) in
       omega arith
 
-  agreed-bytes : (st : ConflictStyle) (d : Sides) → step-bytes (agreed-steps st s d) ≤ hunk-bytes s (d .left)
+  agreed-bytes : (st : ConflictStyle) (d : Sides) → step-bytes (agreed-steps st s (d .left)) ≤ hunk-bytes s (d .left)
   agreed-bytes Merge d = omega arith
   agreed-bytes Diff3 d = let e = each-bytes common (side-lines s (d .left)) in omega arith
   agreed-bytes ZealousDiff3 d = omega arith
 
-  keep-bytes : (st : ConflictStyle) (n since : ℕ) (k : Cluster) (d : Sides) → n ≤ 255
-      → step-bytes (keep-steps st s n l since k d) ≤ hunk-bytes s (d .front) + hunk-bytes s (d .left) + hunk-bytes s (d .back) + hunk-bytes s (d .right) + bytes-of (base-lines s k) + 1296
+  keep-bytes : (st : ConflictStyle) (n since : ℕ) (k : Cluster) (d : Sides) → n ≤ max-marker-size
+      → step-bytes (keep-steps st s n l since (from k) (to k) d) ≤ hunk-bytes s (d .front) + hunk-bytes s (d .left) + hunk-bytes s (d .back) + hunk-bytes s (d .right) + bytes-of (base-lines s k) + 1296
   keep-bytes st n since k d p =
-      let nl = marker-ending s since k d in
-      let blk = block-steps st s n l nl k d in
-      let agr = agreed-steps st s d in
-      let mid = cond (blocked st s k d) blk agr in
+      let nl = marker-ending s since (from k) (d .front) (d .left) in
+      let blk = block-steps st s n l nl (from k) (to k) (d .left) (d .right) in
+      let agr = agreed-steps st s (d .left) in
+      let mid = cond (blocked st s (d .left) (d .right)) blk agr in
       let ef = each common (side-lines s (d .front)) in
       let eb = each common (side-lines s (d .back)) in
       let most = hunk-bytes s (d .left) + hunk-bytes s (d .right) + bytes-of (base-lines s k) + 1296 in
-      let x = block-bytes st n nl k d p (newline-short (or-else (before-block s since k (d .front)) (ending-of s (d .left)))) in
+      let x = block-bytes st n nl k d p in
       let y = agreed-bytes st d in
-      let z : step-bytes mid ≤ most = cond-both (blocked st s k d) blk agr (λ ss. step-bytes ss ≤ most) (λ _. x) (λ _. omega arith) in
+      let z : step-bytes mid ≤ most = cond-both (blocked st s (d .left) (d .right)) blk agr (λ ss. step-bytes ss ≤ most) (λ _. x) (λ _. omega arith) in
       let a = step-sum ef (mid ++ eb) in
       let b = step-sum mid eb in
       let f = each-bytes common (side-lines s (d .front)) in
       let g = each-bytes common (side-lines s (d .back)) in
       omega arith
 
-  close-bytes : (d : Sides) (hs : List Hunk) → step-bytes (back-close s d hs) ≤ 2
+  close-bytes : (d : Sides) (hs : List Hunk) → step-bytes (back-close s (d .right) hs) ≤ 2
   close-bytes d [] = omega arith
-  close-bytes d (h ∷ hs) = let e = newline-short (ending-of s (d .right)) in omega arith
+  close-bytes d (h ∷ hs) = let e = ending-short (or-newline (ending-of s (d .right))) in omega arith
 
   union-bytes : (d : Sides) → step-bytes (union-steps s d) ≤ hunk-bytes s (d .front) + hunk-bytes s (d .left) + hunk-bytes s (d .back) + hunk-bytes s (d .right) + 6
   union-bytes d =
@@ -246,17 +259,17 @@ module _ (s : Sheets) (l : Labels) (fits : Labels-fit l) where
       let cf = or-newline (ending-of s (d .front)) in
       let cl = or-newline (ending-of s (d .left)) in
       let lft : List Step = close cf ∷ (eo ++ (close cl ∷ et)) in
-      let mid = cond (line-left s d) lft [] in
-      let bc = back-close s d (d .back) in
+      let mid = cond (line-left s (d .left) (d .right)) lft [] in
+      let bc = back-close s (d .right) (d .back) in
       let ef = each common (side-lines s (d .front)) in
       let eb = each common (side-lines s (d .back)) in
       let i = step-sum eo (close cl ∷ et) in
-      let j = newline-short (ending-of s (d .front)) in
-      let m = newline-short (ending-of s (d .left)) in
+      let j = ending-short (or-newline (ending-of s (d .front))) in
+      let m = ending-short (or-newline (ending-of s (d .left))) in
       let x = each-bytes ours (side-lines s (d .left)) in
       let y = each-bytes theirs (side-lines s (d .right)) in
       let most = hunk-bytes s (d .left) + hunk-bytes s (d .right) + 4 in
-      let z : step-bytes mid ≤ most = cond-both (line-left s d) lft [] (λ ss. step-bytes ss ≤ most) (λ _. omega arith) (λ _. omega arith) in
+      let z : step-bytes mid ≤ most = cond-both (line-left s (d .left) (d .right)) lft [] (λ ss. step-bytes ss ≤ most) (λ _. omega arith) (λ _. omega arith) in
       let a = step-sum ef (mid ++ (bc ++ eb)) in
       let b = step-sum mid (bc ++ eb) in
       let c = step-sum bc eb in

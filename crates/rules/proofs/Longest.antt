@@ -10,19 +10,21 @@ use lib.Dec.{leb, ltb, eqb}
 use Rattle.std.specs.shelf.Lists.{All}
 use Rattle.std.proofs.shelf.Elements.{all-append}
 use Rattle.std.proofs.shelf.Tests.{true≢false, cond-both}
+use Rattle.rules.specs.declared.hunk.Hunk.{Hunk}
 use Rattle.rules.specs.declared.hunk.Side.{Side}
 use Rattle.rules.specs.declared.hunk.Side.the-variants.{Current, Other, Ancestor}
 use Rattle.rules.specs.declared.hunk.Span.{Span}
-use Rattle.rules.specs.declared.hunk.Hunk.{Hunk}
-use Rattle.rules.specs.Lines.{Line, same-line, shared-front}
-use Rattle.rules.specs.Hunks.{Sheets, side-lines, opposite, is-current, is-other, picked}
-use Rattle.rules.specs.Groups.{Cluster, members, from, to, stretch, filled, side-of, ours-of, theirs-of}
-use Rattle.rules.specs.Contraction.{size, reading, first-lines, later-lines, Cut, ahead-more, cut-here, cut-front, cut-back, shared-back, contracted}
-use Rattle.rules.specs.Rendering.{Sides, contracted-by, contracted-sides}
-use Rattle.rules.specs.Outline.{past-start, before-end, middle, shared-end}
-use Rattle.rules.specs.Laws.{Straight, Not-facing}
-use Rattle.rules.proofs.Woven.{Sided}
+use Rattle.rules.specs.Lines.{Line, same-line}
+use Rattle.rules.specs.SharedLines.{shared-front, shared-back, past-start, before-end, middle, shared-end}
+use Rattle.rules.specs.Hunks.{Sheets, side-lines, opposite}
+use Rattle.rules.specs.Walk.{is-current, is-other, picked}
+use Rattle.rules.specs.Groups.{Cluster, members, from, to}
+use Rattle.rules.specs.Filling.{stretch, filled, side-of, ours-of, theirs-of}
+use Rattle.rules.specs.Contraction.{size, reading, first-lines, later-lines, Cut, ahead-more, cut-here, cut-front, cut-back, contracted}
+use Rattle.rules.specs.Sides.{Sides, contracted-by, contracted-sides}
+use Rattle.rules.specs.ContractionLaws.{Straight, Not-facing}
 use Rattle.rules.proofs.Shared.{same-line-refl, front-sym, front-le, end-sym}
+use Rattle.rules.proofs.Woven.{Sided}
 
 -- behind what two lists share at the front they differ
 stops-at : (a b : Line) (as′ bs : List Line) (t : Bool) → same-line a b ≡ t → (n : ℕ)

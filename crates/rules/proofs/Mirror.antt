@@ -6,22 +6,31 @@ use mathlib.Core.List.{List, [], _∷_, _++_, map, map-append}
 use lib.ListN.{length, drop}
 use lib.Dec.{ltb}
 use Rattle.std.proofs.shelf.Tests.{cond-both}
+use Rattle.rules.specs.declared.hunk.Hunk.{Hunk}
 use Rattle.rules.specs.declared.hunk.Side.{Side}
 use Rattle.rules.specs.declared.hunk.Side.the-variants.{Current, Other, Ancestor}
-use Rattle.rules.specs.declared.hunk.Hunk.{Hunk}
-use Rattle.rules.specs.declared.mode.ConflictStyle.{ConflictStyle}
 use Rattle.rules.specs.declared.mode.Conflict.the-variants.{Keep}
+use Rattle.rules.specs.declared.mode.ConflictStyle.{ConflictStyle}
 use Rattle.rules.specs.declared.mode.Resolution.the-variants.{Complete, Conflict}
 use Rattle.rules.specs.Lines.{Line, between, same-lines}
-use Rattle.rules.specs.Hunks.{Sheets, lines-by, hunk-lines, side-lines, walk, currents, others}
-use Rattle.rules.specs.Groups.{Cluster, clusters, members, is-group, from, to, stretch, filled, sides-differ}
-use Rattle.rules.specs.Rendering.{Labels, contracts, with-base, rendering, verdict}
-use Rattle.rules.specs.Agreement.{In-order, Kept, Item, line, block, outline, exchanged-item, facing-side, exchanged-hunk, exchanged-sheets, some-group-differs}
-use Rattle.rules.specs.Outline.{shared-start, shared-end, middle, ours-lines, theirs-lines, drawn-in, block-items, base-part, group-items, cluster-items, items}
-use Rattle.rules.specs.Grouping.{Pairwise, Exchanged}
-use Rattle.rules.proofs.Shared.{same-line-sym, same-lines-true, start-sym, end-sym}
+use Rattle.rules.specs.SharedLines.{shared-start, shared-end, middle}
+use Rattle.rules.specs.Hunks.{Sheets, lines-by, hunk-lines, side-lines}
+use Rattle.rules.specs.Walk.{walk, currents, others}
+use Rattle.rules.specs.Groups.{Cluster, clusters, members, is-group, from, to}
+use Rattle.rules.specs.Filling.{stretch, filled, sides-differ, ours-lines, theirs-lines}
+use Rattle.rules.specs.Sides.{contracts, with-base}
+use Rattle.rules.specs.Markers.{Labels}
+use Rattle.rules.specs.Rendering.{rendering}
+use Rattle.rules.specs.Verdict.{verdict}
+use Rattle.rules.specs.Outline.{Item, line, block, outline}
+use Rattle.rules.specs.GroupOutline.{drawn-in, block-items, base-part, group-items, cluster-items, items}
+use Rattle.rules.specs.Exchange.{exchanged-item, facing-side, exchanged-hunk, exchanged-sheets}
+use Rattle.rules.specs.Order.{In-order, Kept}
+use Rattle.rules.specs.GroupLaws.{Pairwise, Exchanged}
+use Rattle.rules.specs.VerdictLaws.{some-group-differs}
 use Rattle.rules.proofs.Exchange.{exchange-keeps-groups}
 use Rattle.rules.proofs.Outlines.{outlined}
+use Rattle.rules.proofs.Shared.{same-line-sym, same-lines-true, start-sym, end-sym}
 use Rattle.rules.proofs.Verdicts.{keep-verdict}
 
 -- the hunks are kept

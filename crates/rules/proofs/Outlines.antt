@@ -8,21 +8,30 @@ use Rattle.std.specs.declared.option.Option.the-variants.{None, Some}
 use lib.ListN.{drop}
 use lib.Seq.{append-snoc}
 use Rattle.std.specs.shelf.Lists.{All}
-use Rattle.rules.specs.Pieces.{common, ours, base, theirs, marker, ending, Chunk}
+use Rattle.rules.specs.declared.ending.Ending.{Ending}
 use Rattle.rules.specs.declared.hunk.Hunk.{Hunk}
+use Rattle.rules.specs.declared.mode.Conflict.the-variants.{Keep}
 use Rattle.rules.specs.declared.mode.ConflictStyle.{ConflictStyle}
 use Rattle.rules.specs.declared.mode.ConflictStyle.the-variants.{Merge, Diff3, ZealousDiff3}
-use Rattle.rules.specs.declared.mode.Conflict.the-variants.{Keep}
 use Rattle.rules.specs.Lines.{Line, between, same-lines}
-use Rattle.rules.specs.Hunks.{Sheets, hunk-lines, side-lines, walk}
-use Rattle.rules.specs.Groups.{Cluster, clusters, from, to, stretch, is-group, sides-differ}
-use Rattle.rules.specs.Endings.{ending-of, or-newline}
-use Rattle.rules.specs.Rendering.{Labels, Step, put, close, each, label-steps, marker-steps, Sides, blocked, line-left, contracted-sides, sides-in, base-lines, base-steps, block-steps, agreed-steps, keep-steps, marker-ending, group-steps, cluster-steps, steps-from, pieces-of, open-after, rendering}
-use Rattle.rules.specs.Agreement.{Kept, Item, line, block, Part, outside, in-o, in-b, in-t, more-pieces, Reading, start, given-by, read-kind, read-on, outline}
-use Rattle.rules.specs.Outline.{shared-start, shared-end, ours-lines, theirs-lines, drawn-in, base-part, group-items, cluster-items, items}
-use Rattle.rules.proofs.Shared.{parts-join, equal-middle, same-lines-true}
+use Rattle.rules.specs.SharedLines.{shared-start, shared-end}
+use Rattle.rules.specs.Hunks.{Sheets, hunk-lines, side-lines}
+use Rattle.rules.specs.Walk.{walk}
+use Rattle.rules.specs.Groups.{Cluster, clusters, from, to, is-group}
+use Rattle.rules.specs.Filling.{stretch, sides-differ, ours-lines, theirs-lines, base-lines}
+use Rattle.rules.specs.Sides.{Sides, line-left, contracted-sides, sides-in}
+use Rattle.rules.specs.Endings.{ending-of, or-newline, ending-bytes}
+use Rattle.rules.specs.Pieces.{common, ours, base, theirs, marker, ending, Chunk}
+use Rattle.rules.specs.Steps.{Step, put, close, each, pieces-of, left-open}
+use Rattle.rules.specs.Markers.{Labels, label-steps, marker-steps}
+use Rattle.rules.specs.Blocks.{blocked, base-steps, block-steps, agreed-steps, keep-steps, marker-ending}
+use Rattle.rules.specs.Rendering.{group-steps, cluster-steps, steps-from, rendering}
+use Rattle.rules.specs.Outline.{Item, line, block, Part, outside, in-o, in-b, in-t, more-pieces, Reading, start, given-by, read-kind, read-on, outline}
+use Rattle.rules.specs.GroupOutline.{drawn-in, base-part, group-items, cluster-items, items}
+use Rattle.rules.specs.Order.{Kept}
 use Rattle.rules.proofs.Contracting.{Sides-lines, sides-lines, left-is}
 use Rattle.rules.proofs.Fits.{Fit, kept-fit}
+use Rattle.rules.proofs.Shared.{parts-join, equal-middle, same-lines-true}
 use Rattle.rules.proofs.Steps.{agreed-lines}
 
 abbrev at : Part → ℕ → List Line → List Line → List Line → Reading
@@ -34,13 +43,13 @@ module _ (st : ConflictStyle) (l : Labels) where
   read-steps r (put c ∷ ss) = given-by r (c .kind) (c .bytes) ++ read-steps (read-kind st l r (c .kind) (c .bytes)) ss
   read-steps r (close e ∷ ss) = read-steps r ss
 
-  closed-read : (r : Reading) (e : List ℕ) (o : Bool) (cs : List Chunk) (is : List Item) → read-on st l r cs ≡ is → read-on st l r (cond o (record { kind = ending; bytes = e } ∷ cs) cs) ≡ is
+  closed-read : (r : Reading) (e : Ending) (o : Bool) (cs : List Chunk) (is : List Item) → read-on st l r cs ≡ is → read-on st l r (cond o (record { kind = ending; bytes = ending-bytes e } ∷ cs) cs) ≡ is
   closed-read r e true cs is p = p
   closed-read r e false cs is p = p
 
   pieces-read : (r : Reading) (o : Bool) (ss : List Step) → read-on st l r (pieces-of o ss) ≡ read-steps r ss
   pieces-read r o [] = refl
-  pieces-read r o (put c ∷ ss) = ap (λ (is : List Item). given-by r (c .kind) (c .bytes) ++ is) (pieces-read (read-kind st l r (c .kind) (c .bytes)) (open-after o (c .bytes)) ss)
+  pieces-read r o (put c ∷ ss) = ap (λ (is : List Item). given-by r (c .kind) (c .bytes) ++ is) (pieces-read (read-kind st l r (c .kind) (c .bytes)) (left-open o (c .bytes)) ss)
   pieces-read r o (close e ∷ ss) = closed-read r e o (pieces-of false ss) (read-steps r ss) (pieces-read r false ss)
 
   -- steps that give some items and lead from one reading to another
@@ -71,25 +80,25 @@ module _ (st : ConflictStyle) (l : Labels) where
   theirs-lead p n o b t (x ∷ xs) rest = theirs-lead p n o b (t ++ (x ∷ [])) xs rest ∙ ap (λ (y : List Line). read-steps (at p n o b y) rest) (append-snoc t x xs)
 
   -- a marker behind its first piece
-  tail-lead : (label : Option (List ℕ)) (nl : List ℕ) (p : Part) (o b t : List Line) → Leads (at p (more-pieces label) o b t) (label-steps label ++ (put (record { kind = marker; bytes = nl }) ∷ [])) [] (at p 0 o b t)
+  tail-lead : (label : Option (List ℕ)) (nl : Ending) (p : Part) (o b t : List Line) → Leads (at p (more-pieces label) o b t) (label-steps label ++ (put (record { kind = marker; bytes = ending-bytes nl }) ∷ [])) [] (at p 0 o b t)
   tail-lead None nl p o b t rest = refl
   tail-lead (Some x) nl p o b t rest = refl
 
-  open-lead : (c n : ℕ) (nl : List ℕ) → Leads start (marker-steps c n (l .current) nl) [] (at in-o 0 [] [] [])
+  open-lead : (c n : ℕ) (nl : Ending) → Leads start (marker-steps c n (l .current) nl) [] (at in-o 0 [] [] [])
   open-lead c n nl rest = tail-lead (l .current) nl in-o [] [] [] rest
 
-  end-lead : (c n : ℕ) (nl : List ℕ) (o b t : List Line) → Leads (at in-t 0 o b t) (marker-steps c n (l .other) nl) (block o b t ∷ []) start
+  end-lead : (c n : ℕ) (nl : Ending) (o b t : List Line) → Leads (at in-t 0 o b t) (marker-steps c n (l .other) nl) (block o b t ∷ []) start
   end-lead c n nl o b t rest = ap (λ (is : List Item). block o b t ∷ is) (tail-lead (l .other) nl outside [] [] [] rest)
 
-  mid-lead : (c n : ℕ) (nl : List ℕ) (o b t : List Line) → Leads (at in-b 0 o b t) (marker-steps c n None nl) [] (at in-t 0 o b t)
+  mid-lead : (c n : ℕ) (nl : Ending) (o b t : List Line) → Leads (at in-b 0 o b t) (marker-steps c n None nl) [] (at in-t 0 o b t)
   mid-lead c n nl o b t rest = refl
 
 -- what stands between the ours part and the theirs part
-split-lead : (st : ConflictStyle) (l : Labels) (p : Part) (n : ℕ) (nl : List ℕ) (o b : List Line) (tail : List Step) (js : List Item)
+split-lead : (st : ConflictStyle) (l : Labels) (p : Part) (n : ℕ) (nl : Ending) (o b : List Line) (tail : List Step) (js : List Item)
     → Leads st l (at p 0 o b []) (marker-steps 61 n None nl) [] (at in-t 0 o b []) → Leads st l (at in-t 0 o b []) tail js start → Leads st l (at p 0 o b []) (marker-steps 61 n None nl ++ tail) js start
 split-lead st l p n nl o b tail js m q = leads-on st l (at p 0 o b []) (at in-t 0 o b []) start (marker-steps 61 n None nl) tail [] js m q
 
-based-lead : (st : ConflictStyle) (l : Labels) (n : ℕ) (nl nb : List ℕ) (o b : List Line) (tail : List Step) (js : List Item)
+based-lead : (st : ConflictStyle) (l : Labels) (n : ℕ) (nl nb : Ending) (o b : List Line) (tail : List Step) (js : List Item)
     → Leads st l (at in-o 0 o [] []) (marker-steps 124 n (l .ancestor) nb) [] (at in-b 0 o [] [])
     → Leads st l (at in-t 0 o b []) tail js start
     → Leads st l (at in-o 0 o [] []) ((marker-steps 124 n (l .ancestor) nb ++ each base b) ++ (marker-steps 61 n None nl ++ tail)) js start
@@ -98,9 +107,9 @@ based-lead st l n nl nb o b tail js m q =
     (leads-on st l (at in-o 0 o [] []) (at in-b 0 o [] []) (at in-b 0 o b []) (marker-steps 124 n (l .ancestor) nb) (each base b) [] [] m (base-lead st l in-b 0 o [] [] b))
     (split-lead st l in-b n nl o b tail js (mid-lead st l 61 n nl o b []) q)
 
-between-lead : (st : ConflictStyle) (l : Labels) (s : Sheets) (n : ℕ) (k : Cluster) (nl : List ℕ) (o : List Line) (tail : List Step) (js : List Item)
+between-lead : (st : ConflictStyle) (l : Labels) (s : Sheets) (n : ℕ) (k : Cluster) (nl : Ending) (o : List Line) (tail : List Step) (js : List Item)
     → Leads st l (at in-t 0 o (base-part st s k) []) tail js start
-    → Leads st l (at in-o 0 o [] []) (base-steps st s n l k ++ (marker-steps 61 n None nl ++ tail)) js start
+    → Leads st l (at in-o 0 o [] []) (base-steps st s n (l .ancestor) (from k) (to k) ++ (marker-steps 61 n None nl ++ tail)) js start
 between-lead Merge l s n k nl o tail js q = split-lead Merge l in-o n nl o [] tail js (λ rest. refl) q
 between-lead Diff3 l s n k nl o tail js q =
     let nb = or-newline (ending-of s (stretch (from k) (to k))) in
@@ -110,7 +119,7 @@ between-lead ZealousDiff3 l s n k nl o tail js q =
     based-lead ZealousDiff3 l n nl nb o (base-lines s k) tail js (λ rest. tail-lead ZealousDiff3 l (l .ancestor) nb in-b o [] [] rest) q
 
 module _ (st : ConflictStyle) (l : Labels) (s : Sheets) (n : ℕ) (k : Cluster) where
-  block-lead : (nl : List ℕ) (d : Sides) → Leads st l start (block-steps st s n l nl k d) (block (side-lines s (d .left)) (base-part st s k) (side-lines s (d .right)) ∷ []) start
+  block-lead : (nl : Ending) (d : Sides) → Leads st l start (block-steps st s n l nl (from k) (to k) (d .left) (d .right)) (block (side-lines s (d .left)) (base-part st s k) (side-lines s (d .right)) ∷ []) start
   block-lead nl d =
       let xs = side-lines s (d .left) in
       let ys = side-lines s (d .right) in
@@ -120,7 +129,7 @@ module _ (st : ConflictStyle) (l : Labels) (s : Sheets) (n : ℕ) (k : Cluster) 
       let m62 = marker-steps 62 n (l .other) nl in
       let eo = each ours xs in
       let et = each theirs ys in
-      let sb = base-steps st s n l k in
+      let sb = base-steps st s n (l .ancestor) (from k) (to k) in
       let is : List Item = block xs bs ys ∷ [] in
       leads-on st l start (at in-o 0 [] [] []) start m60 (eo ++ (sb ++ (m61 ++ (et ++ m62)))) [] is (open-lead st l 60 n nl)
       (leads-on st l (at in-o 0 [] [] []) (at in-o 0 xs [] []) start eo (sb ++ (m61 ++ (et ++ m62))) [] is (ours-lead st l in-o 0 [] [] [] xs)
@@ -131,10 +140,10 @@ module _ (st : ConflictStyle) (l : Labels) (s : Sheets) (n : ℕ) (k : Cluster) 
   either-lead r r′ true x y u v p q = p
   either-lead r r′ false x y u v p q = q
 
-  agreed-lead : (d : Sides) → Leads st l start (agreed-steps st s d) (map line (agreed-lines st s d)) start
+  agreed-lead : (d : Sides) → Leads st l start (agreed-steps st s (d .left)) (map line (agreed-lines st s d)) start
   agreed-lead d = go st
     where
-      go : (st′ : ConflictStyle) → Leads st l start (agreed-steps st′ s d) (map line (agreed-lines st′ s d)) start
+      go : (st′ : ConflictStyle) → Leads st l start (agreed-steps st′ s (d .left)) (map line (agreed-lines st′ s d)) start
       go Merge rest = refl
       go Diff3 rest = common-leads st l start (side-lines s (d .left)) rest
       go ZealousDiff3 rest = refl
@@ -142,22 +151,22 @@ module _ (st : ConflictStyle) (l : Labels) (s : Sheets) (n : ℕ) (k : Cluster) 
   abbrev pub kept-items : Sides → List Item
   kept-items d =
       map line (side-lines s (d .front))
-      ++ (cond (blocked st s k d) (block (side-lines s (d .left)) (base-part st s k) (side-lines s (d .right)) ∷ []) (map line (agreed-lines st s d)) ++ map line (side-lines s (d .back)))
+      ++ (cond (blocked st s (d .left) (d .right)) (block (side-lines s (d .left)) (base-part st s k) (side-lines s (d .right)) ∷ []) (map line (agreed-lines st s d)) ++ map line (side-lines s (d .back)))
 
-  keep-lead : (since : ℕ) (d : Sides) → Leads st l start (keep-steps st s n l since k d) (kept-items d) start
+  keep-lead : (since : ℕ) (d : Sides) → Leads st l start (keep-steps st s n l since (from k) (to k) d) (kept-items d) start
   keep-lead since d =
-      let blk = block-steps st s n l (marker-ending s since k d) k d in
-      let agr = agreed-steps st s d in
-      let mid = cond (blocked st s k d) blk agr in
+      let blk = block-steps st s n l (marker-ending s since (from k) (d .front) (d .left)) (from k) (to k) (d .left) (d .right) in
+      let agr = agreed-steps st s (d .left) in
+      let mid = cond (blocked st s (d .left) (d .right)) blk agr in
       let ib : List Item = block (side-lines s (d .left)) (base-part st s k) (side-lines s (d .right)) ∷ [] in
       let ia = map line (agreed-lines st s d) in
-      let im = cond (blocked st s k d) ib ia in
+      let im = cond (blocked st s (d .left) (d .right)) ib ia in
       let ef = each common (side-lines s (d .front)) in
       let eb = each common (side-lines s (d .back)) in
       leads-on st l start start start ef (mid ++ eb) (map line (side-lines s (d .front))) (im ++ map line (side-lines s (d .back)))
       (common-leads st l start (side-lines s (d .front)))
       (leads-on st l start start start mid eb im (map line (side-lines s (d .back)))
-      (either-lead start start (blocked st s k d) blk agr ib ia (block-lead (marker-ending s since k d) d) (agreed-lead d))
+      (either-lead start start (blocked st s (d .left) (d .right)) blk agr ib ia (block-lead (marker-ending s since (from k) (d .front) (d .left)) d) (agreed-lead d))
       (common-leads st l start (side-lines s (d .back))))
 
 -- what the items are, in the lines of the two sides
@@ -178,12 +187,12 @@ undrawn : (xs b ys : List Line) (e : Bool) → cond e (block xs b ys ∷ []) (ma
 undrawn xs b ys e = append-nil (cond e (block xs b ys ∷ []) (map line xs))
 
 contracted-items : (s : Sheets) (k : Cluster) (b : List Line) → Fit s k
-    → map line (side-lines s (contracted-sides s k .front)) ++ (cond (line-left s (contracted-sides s k)) (block (side-lines s (contracted-sides s k .left)) b (side-lines s (contracted-sides s k .right)) ∷ []) [] ++ map line (side-lines s (contracted-sides s k .back)))
+    → map line (side-lines s (contracted-sides s k .front)) ++ (cond (line-left s (contracted-sides s k .left) (contracted-sides s k .right)) (block (side-lines s (contracted-sides s k .left)) b (side-lines s (contracted-sides s k .right)) ∷ []) [] ++ map line (side-lines s (contracted-sides s k .back)))
     ≡ cond (sides-differ s k) (drawn-in (ours-lines s k) b (theirs-lines s k)) (map line (ours-lines s k))
 contracted-items s k b fit = by (contracted-sides s k) (sides-lines s k (fit .ours) (fit .theirs))
   where
     by : (d : Sides) → Sides-lines s (ours-lines s k) (theirs-lines s k) d
-        → map line (side-lines s (d .front)) ++ (cond (line-left s d) (block (side-lines s (d .left)) b (side-lines s (d .right)) ∷ []) [] ++ map line (side-lines s (d .back)))
+        → map line (side-lines s (d .front)) ++ (cond (line-left s (d .left) (d .right)) (block (side-lines s (d .left)) b (side-lines s (d .right)) ∷ []) [] ++ map line (side-lines s (d .back)))
         ≡ cond (sides-differ s k) (drawn-in (ours-lines s k) b (theirs-lines s k)) (map line (ours-lines s k))
     by d p =
         ap (λ (e : Bool). map line (side-lines s (d .front)) ++ (cond e (block (side-lines s (d .left)) b (side-lines s (d .right)) ∷ []) [] ++ map line (side-lines s (d .back))))

@@ -5,10 +5,11 @@ use mathlib.Core.List.{List, [], _∷_, List·Memᴰ, List·Memᴰ·head, List·
 use lib.Dec.{leb}
 use Rattle.std.proofs.shelf.Tests.{cond-both, and-left}
 use Rattle.std.specs.shelf.Lists.{kept-by}
+use Rattle.rules.specs.declared.hunk.Hunk.{Hunk}
 use Rattle.rules.specs.declared.hunk.Side.{Side}
 use Rattle.rules.specs.declared.hunk.Side.the-variants.{Current, Other, Ancestor}
-use Rattle.rules.specs.declared.hunk.Hunk.{Hunk}
-use Rattle.rules.specs.Hunks.{opposite, touches, touches-any, is-current, is-other, picked, currents, others}
+use Rattle.rules.specs.Hunks.{opposite, touches, touches-any}
+use Rattle.rules.specs.Walk.{is-current, is-other, picked, currents, others}
 
 pub kept-same : (p q : Hunk → Bool) (hs : List Hunk) → ((h : Hunk) → List·Memᴰ h hs → p h ≡ q h) → kept-by p hs ≡ kept-by q hs
 kept-same p q [] f = refl

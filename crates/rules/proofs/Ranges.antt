@@ -2,22 +2,24 @@
 use Prim.Native.Nat.{ℕ, _≤_, _<_}
 use native.Mathlib.Omega.{arith}
 use mathlib.Core.Path.{_≡_, refl, sym, subst}
-use mathlib.Core.Logic.{_⊎_, ⊎-elim}
+use mathlib.Core.Logic.{⊎-elim}
 use mathlib.Core.List.{List, [], _∷_, List·Memᴰ, List·Memᴰ·head, List·Memᴰ·tail}
 use lib.ListN.{length}
 use Rattle.std.specs.shelf.Lists.{All}
 use Rattle.std.proofs.shelf.Tests.{cases-lt}
+use Rattle.rules.specs.declared.hunk.Hunk.{Hunk}
 use Rattle.rules.specs.declared.hunk.Side.{Side}
 use Rattle.rules.specs.declared.hunk.Side.the-variants.{Current, Other}
-use Rattle.rules.specs.declared.hunk.Hunk.{Hunk}
-use Rattle.rules.specs.Hunks.{Sheets, walk}
+use Rattle.rules.specs.Hunks.{Sheets}
+use Rattle.rules.specs.Walk.{walk}
 use Rattle.rules.specs.Groups.{Cluster, clusters, members, from, to, last-end}
-use Rattle.rules.specs.Agreement.{Kept, all-members}
-use Rattle.rules.specs.Laws.{In-turn, Range, Apart, Range-laws}
-use Rattle.rules.proofs.Woven.{Woven, next, next-start, woven-above, runs, walk-woven}
+use Rattle.rules.specs.Order.{Kept}
+use Rattle.rules.specs.WalkLaws.{In-turn}
+use Rattle.rules.specs.GroupLaws.{all-members, Range, Apart, Range-laws}
 use Rattle.rules.proofs.Chains.{Cut, cut, parted, in-all}
 use Rattle.rules.proofs.Texts.{after, woven-parts, last-end-above}
 use Rattle.rules.proofs.Walks.{all-of, ours-apart, theirs-apart}
+use Rattle.rules.proofs.Woven.{Woven, next, next-start, woven-above, runs, walk-woven}
 
 -- some hunk of a list has the greatest end
 greatest : (h : Hunk) (hs : List Hunk) → (g : Hunk) × List·Memᴰ g (h ∷ hs) × (g .before .end ≡ last-end (h ∷ hs))

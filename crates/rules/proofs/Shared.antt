@@ -9,9 +9,8 @@ use lib.Seq.{take-at, take-nil, drop-length}
 use lib.Dec.{eqb}
 use Rattle.std.proofs.shelf.Tests.{false≢true, and-parts, and-from, eqb-true, eq-eqb}
 use Rattle.std.proofs.shelf.Ways.{tells}
-use Rattle.rules.specs.Lines.{Line, same-line, same-lines, shared-front}
-use Rattle.rules.specs.Contraction.{shared-back}
-use Rattle.rules.specs.Outline.{shared-start, past-start, before-end, at-end, middle, shared-end}
+use Rattle.rules.specs.Lines.{Line, same-line, same-lines}
+use Rattle.rules.specs.SharedLines.{shared-front, shared-back, shared-start, past-start, before-end, at-end, middle, shared-end}
 
 eqb-sym : (a b : ℕ) → eqb a b ≡ eqb b a
 eqb-sym a b = grind (arith, tells)

@@ -1,5 +1,6 @@
 -- The rules of line endings.
-use Prim.Native.Nat.{ℕ, _+_, _-_, _≤_, _<_}
+use Rattle.rules.specs.Filling.{stretch}
+use Prim.Native.Nat.{ℕ, _-_, _≤_, _<_}
 use native.Mathlib.Omega.{arith}
 use mathlib.Core.Path.{_≡_, refl, sym, ap, _∙_}
 use mathlib.Core.Bool.{Bool, true, false, cond, not}
@@ -9,14 +10,15 @@ use Rattle.std.specs.declared.option.Option.the-variants.{None, Some}
 use lib.ListN.{length, getD, length-append}
 use lib.Seq.{getD-at}
 use lib.Dec.{leb, eqb}
-use Rattle.std.proofs.shelf.Tests.{le-leb, lt-leb, eq-eqb, ne-eqb, not-from-true, not-from-false}
-use Rattle.rules.specs.declared.hunk.Span.{Span}
-use Rattle.rules.specs.declared.hunk.Hunk.{Hunk}
-use Rattle.rules.specs.Lines.{Line}
-use Rattle.rules.specs.Hunks.{Sheets}
+use Rattle.std.proofs.shelf.Tests.{le-leb, lt-leb, eq-eqb, ne-eqb, not-from-true, not-from-false, lt-ltb, le-ltb}
 use Rattle.rules.specs.declared.ending.Ending.{Ending}
 use Rattle.rules.specs.declared.ending.Ending.the-variants.{Newline, ReturnNewline}
-use Rattle.rules.specs.Endings.{by-second-last, ends-in-newline, ending-before, no-lines, ending-back, ending-of, Ending-laws}
+use Rattle.rules.specs.declared.hunk.Hunk.{Hunk}
+use Rattle.rules.specs.declared.hunk.Span.{Span}
+use Rattle.rules.specs.Lines.{Line}
+use Rattle.rules.specs.Hunks.{Sheets}
+use Rattle.rules.specs.Endings.{by-second-last, ends-in-newline, ending-before, no-lines, ending-back, ending-of}
+use Rattle.rules.specs.EndingLaws.{Ending-laws}
 
 has-lines : (r : Span) → r .start < r .end → not (no-lines r) ≡ true
 has-lines r lt = not-from-false (no-lines r) (lt-leb (r .end) (r .start) lt)
@@ -60,6 +62,12 @@ either-none : (t : Bool) (x : Option Ending) → x ≡ None → cond t x None �
 either-none true x e = e
 either-none false x e = refl
 
+of-stretch : (s : Sheets) (a b : ℕ) → a < b → ending-of s (stretch a b) ≡ ending-before (s .ancestor) b
+of-stretch s a b lt = rw (lt-ltb a b lt) (rw (lt-leb b a lt))
+
+no-stretch : (s : Sheets) (a b : ℕ) → b ≤ a → ending-of s (stretch a b) ≡ None
+no-stretch s a b le = rw (le-ltb a b le)
+
 pub ending-laws : (s : Sheets) → Ending-laws s
 ending-laws s = record {
   no-hunk = refl;
@@ -74,4 +82,6 @@ ending-laws s = record {
       (λ q. o ∙ rw (eq-eqb d 13 q), λ q. o ∙ rw (ne-eqb d 13 q));
   short-before = λ ls b xs c z e f i. open-line ls b xs c e f ∙ either-none (leb 2 b) (by-second-last (getD ls (b - 2) [])) (ap by-second-last i);
   first-line = λ ls xs c e f. open-line ls 1 xs c e f;
+  of-stretch = of-stretch s;
+  no-stretch = no-stretch s;
 }

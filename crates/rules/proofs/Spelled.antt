@@ -3,29 +3,34 @@ use Prim.Native.Nat.{ℕ}
 use mathlib.Core.Path.{_≡_, refl, sym, ap, ap₂, _∙_}
 use mathlib.Core.Bool.{Bool, true, false, cond, _&&_, _||_, not}
 use mathlib.Core.List.{List, [], _∷_, _++_, map, append-nil, append-assoc}
-use Rattle.std.specs.declared.option.Option.{Option}
-use Rattle.std.specs.declared.option.Option.the-variants.{None, Some}
 use lib.ListN.{drop}
 use Rattle.std.specs.shelf.Lists.{All}
 use Rattle.std.proofs.shelf.Elements.{all-weaker}
-use Rattle.rules.specs.Pieces.{common, ours, base, theirs}
 use Rattle.rules.specs.declared.hunk.Hunk.{Hunk}
-use Rattle.rules.specs.declared.mode.ConflictStyle.{ConflictStyle}
-use Rattle.rules.specs.declared.mode.ConflictStyle.the-variants.{Merge, Diff3, ZealousDiff3}
 use Rattle.rules.specs.declared.mode.Conflict as modes
 use Rattle.rules.specs.declared.mode.Conflict.the-variants.{Keep}
+use Rattle.rules.specs.declared.mode.ConflictStyle.{ConflictStyle}
 use Rattle.rules.specs.Lines.{Line, between, same-lines}
-use Rattle.rules.specs.Hunks.{Sheets, hunk-lines, side-lines, walk}
-use Rattle.rules.specs.Groups.{Cluster, clusters, from, to, stretch, is-group, sides-differ}
-use Rattle.rules.specs.Endings.{ending-of, or-newline}
-use Rattle.rules.specs.Rendering.{Labels, Step, each, marker-steps, Sides, blocked, contracts, sides-in, base-lines, base-steps, block-steps, agreed-steps, keep-steps, marker-ending, group-steps, cluster-steps, steps-from, rendering}
-use Rattle.rules.specs.Agreement.{Kept, Item, line, block, is-line, all-lines, some-group-differs}
-use Rattle.rules.specs.Outline.{shared-start, middle, shared-end, ours-lines, theirs-lines, drawn-in, block-items, base-part, group-items, cluster-items, items}
-use Rattle.rules.specs.Laws.{has-block, ours-part, theirs-part, every-part, spelled, with-groups}
-use Rattle.rules.proofs.Shared.{parts-join, parts-join-other, same-lines-true}
+use Rattle.rules.specs.SharedLines.{shared-start, middle, shared-end}
+use Rattle.rules.specs.Hunks.{Sheets, hunk-lines, side-lines}
+use Rattle.rules.specs.Walk.{walk}
+use Rattle.rules.specs.Groups.{Cluster, clusters, from, to, is-group}
+use Rattle.rules.specs.Filling.{sides-differ, ours-lines, theirs-lines}
+use Rattle.rules.specs.Sides.{Sides, contracts, sides-in}
+use Rattle.rules.specs.Pieces.{common}
+use Rattle.rules.specs.Steps.{each}
+use Rattle.rules.specs.Markers.{Labels}
+use Rattle.rules.specs.Blocks.{blocked, keep-steps}
+use Rattle.rules.specs.Rendering.{group-steps, cluster-steps, steps-from, rendering}
+use Rattle.rules.specs.Outline.{Item, line, block, reads-as-line, all-lines, has-block, ours-part, theirs-part, every-part, spelled}
+use Rattle.rules.specs.GroupOutline.{drawn-in, block-items, base-part, group-items, cluster-items, items}
+use Rattle.rules.specs.Order.{Kept}
+use Rattle.rules.specs.SideLaws.{with-groups}
+use Rattle.rules.specs.VerdictLaws.{some-group-differs}
 use Rattle.rules.proofs.Fits.{Fit, kept-fit}
-use Rattle.rules.proofs.Steps.{step-lines, pieces-lines, step-join, each-kept, agreed-lines}
 use Rattle.rules.proofs.Outlines.{kept-items, group-is}
+use Rattle.rules.proofs.Shared.{parts-join, parts-join-other, same-lines-true}
+use Rattle.rules.proofs.Steps.{step-lines, pieces-lines, step-join, each-kept, agreed-lines, keep-is, either-steps}
 
 module _ (f : Item → List Line) (fl : (x : Line) → f (line x) ≡ x ∷ []) where
   pub spelled-append : (a b : List Item) → spelled f (a ++ b) ≡ spelled f a ++ spelled f b
@@ -87,79 +92,37 @@ module _ (st : ConflictStyle) (s : Sheets) (ks : List Cluster) where
       (all-given (λ (k : Cluster). spelled theirs-part (group-items st s k) ≡ theirs-lines s k) ks (λ k. theirs-group st (ours-lines s k) (base-part st s k) (theirs-lines s k) (same-lines (ours-lines s k) (theirs-lines s k)) refl))
 
 -- every line
-no-marker : (c n : ℕ) (label : Option (List ℕ)) (nl : List ℕ) → step-lines is-line (marker-steps c n label nl) ≡ []
-no-marker c n None nl = refl
-no-marker c n (Some l) nl = refl
-
-base-is : (st : ConflictStyle) (s : Sheets) (n : ℕ) (l : Labels) (k : Cluster) → step-lines is-line (base-steps st s n l k) ≡ base-part st s k
-base-is Merge s n l k = refl
-base-is Diff3 s n l k =
-    let nl = or-newline (ending-of s (stretch (from k) (to k))) in
-    step-join is-line (marker-steps 124 n (l .ancestor) nl) (each base (base-lines s k)) (no-marker 124 n (l .ancestor) nl) (each-kept is-line base (base-lines s k) refl)
-base-is ZealousDiff3 s n l k =
-    let nl = or-newline (ending-of s (stretch (from k) (to k))) in
-    step-join is-line (marker-steps 124 n (l .ancestor) nl) (each base (base-lines s k)) (no-marker 124 n (l .ancestor) nl) (each-kept is-line base (base-lines s k) refl)
-
-block-is : (st : ConflictStyle) (s : Sheets) (n : ℕ) (l : Labels) (nl : List ℕ) (k : Cluster) (d : Sides) → step-lines is-line (block-steps st s n l nl k d) ≡ side-lines s (d .left) ++ (base-part st s k ++ side-lines s (d .right))
-block-is st s n l nl k d =
-    let m60 = marker-steps 60 n (l .current) nl in
-    let m61 = marker-steps 61 n None nl in
-    let m62 = marker-steps 62 n (l .other) nl in
-    let eo = each ours (side-lines s (d .left)) in
-    let et = each theirs (side-lines s (d .right)) in
-    let bs = base-steps st s n l k in
-    step-join is-line m60 (eo ++ (bs ++ (m61 ++ (et ++ m62)))) (no-marker 60 n (l .current) nl)
-    (step-join is-line eo (bs ++ (m61 ++ (et ++ m62))) (each-kept is-line ours (side-lines s (d .left)) refl)
-    (step-join is-line bs (m61 ++ (et ++ m62)) (base-is st s n l k)
-    (step-join is-line m61 (et ++ m62) (no-marker 61 n None nl)
-    (step-join is-line et m62 (each-kept is-line theirs (side-lines s (d .right)) refl) (no-marker 62 n (l .other) nl) ∙ append-nil (side-lines s (d .right))))))
-
-agreed-is : (st : ConflictStyle) (s : Sheets) (d : Sides) → step-lines is-line (agreed-steps st s d) ≡ agreed-lines st s d
-agreed-is Merge s d = refl
-agreed-is Diff3 s d = each-kept is-line common (side-lines s (d .left)) refl
-agreed-is ZealousDiff3 s d = refl
-
-either-steps : (b : Bool) (x y : List Step) (u v : List Line) → step-lines is-line x ≡ u → step-lines is-line y ≡ v → step-lines is-line (cond b x y) ≡ cond b u v
-either-steps true x y u v p q = p
-either-steps false x y u v p q = q
-
-keep-is : (st : ConflictStyle) (s : Sheets) (n : ℕ) (l : Labels) (since : ℕ) (k : Cluster) (d : Sides)
-    → step-lines is-line (keep-steps st s n l since k d) ≡ spelled every-part (kept-items st l s n k d)
-keep-is st s n l since k d =
-    let blk = block-steps st s n l (marker-ending s since k d) k d in
-    let agr = agreed-steps st s d in
-    let mid = cond (blocked st s k d) blk agr in
+keep-spelled : (st : ConflictStyle) (s : Sheets) (n : ℕ) (l : Labels) (since : ℕ) (k : Cluster) (d : Sides)
+    → step-lines reads-as-line (keep-steps st s n l since (from k) (to k) d) ≡ spelled every-part (kept-items st l s n k d)
+keep-spelled st s n l since k d =
     let lb = side-lines s (d .left) ++ (base-part st s k ++ side-lines s (d .right)) in
     let ib : List Item = block (side-lines s (d .left)) (base-part st s k) (side-lines s (d .right)) ∷ [] in
     let ia = map line (agreed-lines st s d) in
     let fb = map line (side-lines s (d .back)) in
-    step-join is-line (each common (side-lines s (d .front))) (mid ++ each common (side-lines s (d .back))) (each-kept is-line common (side-lines s (d .front)) refl)
-    (step-join is-line mid (each common (side-lines s (d .back)))
-    (either-steps (blocked st s k d) blk agr lb (agreed-lines st s d) (block-is st s n l (marker-ending s since k d) k d) (agreed-is st s d))
-    (each-kept is-line common (side-lines s (d .back)) refl))
-    ∙ sym (spelled-join every-part (λ _. refl) (map line (side-lines s (d .front))) (cond (blocked st s k d) ib ia ++ fb) (spelled-lines every-part (λ _. refl) (side-lines s (d .front)))
-    (spelled-join every-part (λ _. refl) (cond (blocked st s k d) ib ia) fb
-    (either-spelled every-part (λ _. refl) (blocked st s k d) ib ia lb (agreed-lines st s d) (append-nil lb) (spelled-lines every-part (λ _. refl) (agreed-lines st s d)))
+    keep-is reads-as-line refl refl st s n l since k d
+    ∙ sym (spelled-join every-part (λ _. refl) (map line (side-lines s (d .front))) (cond (blocked st s (d .left) (d .right)) ib ia ++ fb) (spelled-lines every-part (λ _. refl) (side-lines s (d .front)))
+    (spelled-join every-part (λ _. refl) (cond (blocked st s (d .left) (d .right)) ib ia) fb
+    (either-spelled every-part (λ _. refl) (blocked st s (d .left) (d .right)) ib ia lb (agreed-lines st s d) (append-nil lb) (spelled-lines every-part (λ _. refl) (agreed-lines st s d)))
     (spelled-lines every-part (λ _. refl) (side-lines s (d .back)))))
 
 -- what a mode writes, cluster by cluster
 module _ (m : modes.Conflict) (s : Sheets) (l : Labels) (g : Cluster → List Line) where
   abbrev pub Written : Cluster → Type 0
-  Written k = (since : ℕ) → step-lines is-line (group-steps m s l since k) ≡ g k
+  Written k = (since : ℕ) → step-lines reads-as-line (group-steps m s l since k) ≡ g k
 
-  steps-written : (since : ℕ) (ks : List Cluster) → All Written ks → step-lines is-line (steps-from m s l since ks) ≡ with-groups g s since ks
-  steps-written since [] p = each-kept is-line common (drop since (s .ancestor)) refl
+  steps-written : (since : ℕ) (ks : List Cluster) → All Written ks → step-lines reads-as-line (steps-from m s l since ks) ≡ with-groups g s since ks
+  steps-written since [] p = each-kept reads-as-line common (drop since (s .ancestor)) refl
   steps-written since (k ∷ ks) p =
       let ls = between (s .ancestor) since (from k) in
       let c = cluster-steps m s l since k in
       let r = steps-from m s l (to k) ks in
-      step-join is-line (each common ls) (c ++ r) (each-kept is-line common ls refl)
-      (step-join is-line c r
-      (either-steps (is-group k) (group-steps m s l since k) (each common (hunk-lines s (k .first))) (g k) (hunk-lines s (k .first)) (p .0 since) (each-kept is-line common (hunk-lines s (k .first)) refl))
+      step-join reads-as-line (each common ls) (c ++ r) (each-kept reads-as-line common ls refl)
+      (step-join reads-as-line c r
+      (either-steps reads-as-line refl refl (is-group k) (group-steps m s l since k) (each common (hunk-lines s (k .first))) (g k) (hunk-lines s (k .first)) (p .0 since) (each-kept reads-as-line common (hunk-lines s (k .first)) refl))
       (steps-written (to k) ks (p .1)))
 
   pub written : (cs os : List Hunk) → All Written (clusters (walk cs os)) → all-lines (rendering m s l cs os) ≡ with-groups g s 0 (clusters (walk cs os))
-  written cs os p = pieces-lines is-line refl false (steps-from m s l 0 (clusters (walk cs os))) ∙ steps-written 0 (clusters (walk cs os)) p
+  written cs os p = pieces-lines reads-as-line refl false (steps-from m s l 0 (clusters (walk cs os))) ∙ steps-written 0 (clusters (walk cs os)) p
 
 module _ (st : ConflictStyle) (s : Sheets) (n : ℕ) (l : Labels) where
   pub every-spelled : (cs os : List Hunk) → Kept s cs os → spelled every-part (items st s 0 (clusters (walk cs os))) ≡ all-lines (rendering (Keep st n) s l cs os)
@@ -167,7 +130,7 @@ module _ (st : ConflictStyle) (s : Sheets) (n : ℕ) (l : Labels) where
       let ks = clusters (walk cs os) in
       let g : Cluster → List Line = λ k. spelled every-part (group-items st s k) in
       items-spelled every-part (λ _. refl) st g s 0 ks (all-given (λ (k : Cluster). spelled every-part (group-items st s k) ≡ g k) ks (λ k. refl))
-      ∙ sym (written (Keep st n) s l g cs os (all-weaker (Fit s) (Written (Keep st n) s l g) (λ k fit since. keep-is st s n l since k (sides-in st s k) ∙ ap (spelled every-part) (group-is st l s n k fit)) ks (kept-fit s cs os p)))
+      ∙ sym (written (Keep st n) s l g cs os (all-weaker (Fit s) (Written (Keep st n) s l g) (λ k fit since. keep-spelled st s n l since k (sides-in st s k) ∙ ap (spelled every-part) (group-is st l s n k fit)) ks (kept-fit s cs os p)))
 
 -- whether it has a block
 block-append : (a b : List Item) → has-block (a ++ b) ≡ (has-block a || has-block b)

@@ -11,18 +11,22 @@ use lib.Seq.{drop-drop, take-add}
 use Rattle.std.proofs.shelf.Tests.{true≢false, ltb-false, cond-both, cases-bool, or-right, and-left}
 use Rattle.std.specs.shelf.Lists.{kept-by}
 use Rattle.std.proofs.shelf.Elements.{kept-by-append}
+use Rattle.rules.specs.declared.hunk.Hunk.{Hunk}
 use Rattle.rules.specs.declared.hunk.Side.{Side}
 use Rattle.rules.specs.declared.hunk.Side.the-variants.{Current, Other, Ancestor}
-use Rattle.rules.specs.declared.hunk.Hunk.{Hunk}
 use Rattle.rules.specs.Lines.{Line, between}
-use Rattle.rules.specs.Hunks.{Sheets, opposite, touches, touches-any, walk, side-lines, hunk-lines, is-current, is-other, picked}
-use Rattle.rules.specs.Groups.{Cluster, clusters, clusters-from, members, joined, is-group, from, to, last-end, stretch, filled, side-of}
-use Rattle.rules.specs.Laws.{with-groups}
-use Rattle.rules.specs.Agreement.{Kept, put-in, lone-ones, all-members}
-use Rattle.rules.proofs.Woven.{Woven, Run, runs, walk-woven, next, next-own, next-start, touches-sym, any-true, any-from, any-none, woven-above}
+use Rattle.rules.specs.Hunks.{Sheets, opposite, touches, touches-any, side-lines, hunk-lines, lone-ones}
+use Rattle.rules.specs.Walk.{walk, is-current, is-other, picked}
+use Rattle.rules.specs.Groups.{Cluster, clusters, clusters-from, members, joined, is-group, from, to, last-end}
+use Rattle.rules.specs.Filling.{stretch, filled, side-of}
+use Rattle.rules.specs.PutIn.{put-in}
+use Rattle.rules.specs.Order.{Kept}
+use Rattle.rules.specs.GroupLaws.{all-members}
+use Rattle.rules.specs.SideLaws.{with-groups}
 use Rattle.rules.proofs.Chains.{alone, parted, Cut, cut, in-all, chains-of-woven}
-use Rattle.rules.proofs.Picked.{kept-same}
 use Rattle.rules.proofs.Kept.{Low, low-weaken, low-kept, stays, ours-stay, theirs-stay}
+use Rattle.rules.proofs.Picked.{kept-same}
+use Rattle.rules.proofs.Woven.{Woven, Run, runs, walk-woven, next, next-own, next-start, touches-sym, any-true, any-from, any-none, woven-above}
 
 -- a hunk of a group touches one of its group; a lone hunk touches none
 abbrev Linked : Cluster → Type 0

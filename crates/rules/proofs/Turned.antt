@@ -5,35 +5,45 @@ use mathlib.Core.Bool.{Bool, true, false}
 use mathlib.Core.List.{List, [], _∷_, _++_, map, map-append}
 use Rattle.std.specs.declared.option.Option.{Option}
 use Rattle.std.specs.declared.option.Option.the-variants.{None, Some}
+use Rattle.std.specs.declared.result.Result.{Result}
 use lib.ListN.{length, take, length-map}
 use lib.Dec.{leb}
 use Rattle.std.proofs.shelf.Lists.{take-map}
+use Rattle.rules.specs.declared.hunk.Hunk.{Hunk}
 use Rattle.rules.specs.declared.hunk.Side.{Side}
 use Rattle.rules.specs.declared.hunk.Side.the-variants.{Current, Other, Ancestor}
-use Rattle.rules.specs.declared.hunk.Hunk.{Hunk}
-use Rattle.rules.specs.Agreement.{facing-side, exchanged-hunk}
-use Rattle.rules.specs.Tables.{Held, opened, new-table, held-of, holding, Refusal, Answer, counted, ask, answered, changed, last-of, behind, behind-last, open-after, enter-questions, enter-after, withdraw-questions, withdraw-after}
-use Rattle.rules.specs.Runs.{Call, open-with, enter, withdraw, render, after-call, after-calls, exchanged-call, answers, Same-calls-same-hunks}
+use Rattle.rules.specs.declared.refusal.TableRefusal.{TableRefusal}
+use Rattle.rules.specs.declared.refusal.TableRefusal.the-variants.{CountTooLarge}
+use Rattle.rules.specs.Limits.{max-lines}
+use Rattle.rules.specs.Questions.{ask, answered, changed}
+use Rattle.rules.specs.Tables.{Held, opened, new-table, held-of, holding, follows, last-from, last-of, without-last, open-after, enter-questions, enter-after, withdraw-questions, withdraw-after}
+use Rattle.rules.specs.Runs.{Call, open-with, enter, withdraw, render, after-call, after-calls}
+use Rattle.rules.specs.Exchange.{facing-side, exchanged-hunk, exchanged-call}
+use Rattle.rules.specs.RunLaws.{answers, Same-calls-same-hunks}
 
 abbrev turned : Held → Held
-turned t = record { ancestor = t .ancestor; current = t .other; other = t .current; cs = map exchanged-hunk (t .os); os = map exchanged-hunk (t .cs) }
+turned t = record { ancestor-lines = t .ancestor-lines; current-lines = t .other-lines; other-lines = t .current-lines; current = map exchanged-hunk (t .other); other = map exchanged-hunk (t .current) }
 
-last-turned : (g : Hunk) (gs : List Hunk) → last-of (exchanged-hunk g) (map exchanged-hunk gs) ≡ exchanged-hunk (last-of g gs)
-last-turned g [] = refl
-last-turned g (h ∷ hs) = last-turned h hs
+abbrev exchanged-last : Option Hunk → Option Hunk
+exchanged-last None = None
+exchanged-last (Some g) = Some (exchanged-hunk g)
 
-behind-turned : (hs : List Hunk) (h : Hunk) → behind-last (map exchanged-hunk hs) (exchanged-hunk h) ≡ behind-last hs h
-behind-turned [] h = refl
-behind-turned (g ∷ gs) h = ap (λ (x : Hunk). behind x (exchanged-hunk h)) (last-turned g gs)
+last-turned : (g : Option Hunk) (hs : List Hunk) (h : Hunk) → follows (last-from (exchanged-last g) (map exchanged-hunk hs)) (exchanged-hunk h) ≡ follows (last-from g hs) h
+last-turned None [] h = refl
+last-turned (Some g) [] h = refl
+last-turned g (x ∷ xs) h = last-turned (Some x) xs h
+
+behind-turned : (hs : List Hunk) (h : Hunk) → follows (last-of (map exchanged-hunk hs)) (exchanged-hunk h) ≡ follows (last-of hs) h
+behind-turned hs h = last-turned None hs h
 
 enter-turned : (t : Held) (side : Side) (h : Hunk) → enter-questions (turned t) (facing-side side) (exchanged-hunk h) ≡ enter-questions t side h
-enter-turned t Current h = rw (length-map (t .cs) exchanged-hunk, behind-turned (t .cs) h)
-enter-turned t Other h = rw (length-map (t .os) exchanged-hunk, behind-turned (t .os) h)
+enter-turned t Current h = rw (length-map (t .current) exchanged-hunk, behind-turned (t .current) h)
+enter-turned t Other h = rw (length-map (t .other) exchanged-hunk, behind-turned (t .other) h)
 enter-turned t Ancestor h = refl
 
 withdraw-turned : (t : Held) (side : Side) → withdraw-questions (turned t) (facing-side side) ≡ withdraw-questions t side
-withdraw-turned t Current = rw (length-map (t .cs) exchanged-hunk)
-withdraw-turned t Other = rw (length-map (t .os) exchanged-hunk)
+withdraw-turned t Current = rw (length-map (t .current) exchanged-hunk)
+withdraw-turned t Other = rw (length-map (t .other) exchanged-hunk)
 withdraw-turned t Ancestor = refl
 
 held-turned : (t : Held) (side : Side) → held-of (turned t) (facing-side side) ≡ map exchanged-hunk (held-of t side)
@@ -49,14 +59,14 @@ holding-turned t Current hs = refl
 holding-turned t Other hs = refl
 holding-turned t Ancestor hs = refl
 
-changed-turned : (r : Option Refusal) (t′ t : Held) → changed r (turned t′) (turned t) ≡ turned (changed r t′ t)
+changed-turned : (r : Option TableRefusal) (t′ t : Held) → changed r (turned t′) (turned t) ≡ turned (changed r t′ t)
 changed-turned None t′ t = refl
 changed-turned (Some r) t′ t = refl
 
-both-turned : (t : Held) (side : Side) (r r′ : Option Refusal) (hs hs′ : List Hunk) → r′ ≡ r → hs′ ≡ map exchanged-hunk hs
+both-turned : (t : Held) (side : Side) (r r′ : Option TableRefusal) (hs hs′ : List Hunk) → r′ ≡ r → hs′ ≡ map exchanged-hunk hs
     → changed r′ (holding (turned t) (facing-side side) hs′) (turned t) ≡ turned (changed r (holding t side hs) t)
 both-turned t side r r′ hs hs′ p q =
-    ap₂ (λ (x : Option Refusal) (y : List Hunk). changed x (holding (turned t) (facing-side side) y) (turned t)) p q
+    ap₂ (λ (x : Option TableRefusal) (y : List Hunk). changed x (holding (turned t) (facing-side side) y) (turned t)) p q
     ∙ ap (λ (x : Held). changed r x (turned t)) (holding-turned t side hs)
     ∙ changed-turned r (holding t side hs) t
 
@@ -71,13 +81,14 @@ withdrawn-turned : (t : Held) (side : Side) → withdraw-after (turned t) (facin
 withdrawn-turned t side =
     let hs = held-of t side in
     let hs′ = held-of (turned t) (facing-side side) in
-    both-turned t side (withdraw-questions t side) (withdraw-questions (turned t) (facing-side side)) (take (length hs - 1) hs) (take (length hs′ - 1) hs′)
+    both-turned t side (withdraw-questions t side) (withdraw-questions (turned t) (facing-side side)) (without-last hs) (without-last hs′)
     (withdraw-turned t side)
     (ap₂ (λ (n : ℕ) (x : List Hunk). take (n - 1) x) (count-turned t side) (held-turned t side) ∙ take-map exchanged-hunk (length hs - 1) hs)
 
 -- an opening is refused on both or on neither
 opened-either : (a b c : Bool) (t : Held) (x y z : ℕ)
-    → changed (ask a 7 0 (ask c 7 1 (ask b 7 2 None))) (opened x z y) (turned t) ≡ turned (changed (ask a 7 0 (ask b 7 1 (ask c 7 2 None))) (opened x y z) t)
+    → changed (ask a (CountTooLarge Ancestor) (ask c (CountTooLarge Current) (ask b (CountTooLarge Other) None))) (opened x z y) (turned t)
+    ≡ turned (changed (ask a (CountTooLarge Ancestor) (ask b (CountTooLarge Current) (ask c (CountTooLarge Other) None))) (opened x y z) t)
 opened-either true true true t x y z = refl
 opened-either true true false t x y z = refl
 opened-either true false true t x y z = refl
@@ -85,7 +96,7 @@ opened-either true false false t x y z = refl
 opened-either false b c t x y z = refl
 
 open-turned : (t : Held) (a c o : ℕ) → open-after (turned t) a o c ≡ turned (open-after t a c o)
-open-turned t a c o = opened-either (leb a 4096) (leb c 4096) (leb o 4096) t a c o
+open-turned t a c o = opened-either (leb a max-lines) (leb c max-lines) (leb o max-lines) t a c o
 
 call-turned : (t : Held) (x : Call) → after-call (turned t) (exchanged-call x) ≡ turned (after-call t x)
 call-turned t (open-with a c o) = open-turned t a c o
@@ -100,15 +111,15 @@ calls-turned t (x ∷ xs) = ap (λ (u : Held). after-calls u (map exchanged-call
 answers-turned : (t : Held) (xs : List Call) → answers (turned t) (map exchanged-call xs) ≡ answers t xs
 answers-turned t [] = refl
 answers-turned t (open-with a c o ∷ xs) = ap (λ (u : Held). answers u (map exchanged-call xs)) (open-turned t a c o) ∙ answers-turned (open-after t a c o) xs
-answers-turned t (enter h ∷ xs) = ap₂ (λ (a : Answer) (as′ : List Answer). a ∷ as′)
-    (ap₂ (λ (r : Option Refusal) (n : ℕ). answered r (counted (n + 1))) (enter-turned t (h .side) h) (count-turned t (h .side)))
+answers-turned t (enter h ∷ xs) = ap₂ (λ (a : Result ℕ TableRefusal) (as′ : List (Result ℕ TableRefusal)). a ∷ as′)
+    (ap₂ (λ (r : Option TableRefusal) (n : ℕ). answered r (n + 1)) (enter-turned t (h .side) h) (count-turned t (h .side)))
     (ap (λ (u : Held). answers u (map exchanged-call xs)) (entered-turned t h) ∙ answers-turned (enter-after t h) xs)
-answers-turned t (withdraw side ∷ xs) = ap₂ (λ (a : Answer) (as′ : List Answer). a ∷ as′)
-    (ap₂ (λ (r : Option Refusal) (n : ℕ). answered r (counted (n - 1))) (withdraw-turned t side) (count-turned t side))
+answers-turned t (withdraw side ∷ xs) = ap₂ (λ (a : Result ℕ TableRefusal) (as′ : List (Result ℕ TableRefusal)). a ∷ as′)
+    (ap₂ (λ (r : Option TableRefusal) (n : ℕ). answered r (n - 1)) (withdraw-turned t side) (count-turned t side))
     (ap (λ (u : Held). answers u (map exchanged-call xs)) (withdrawn-turned t side) ∙ answers-turned (withdraw-after t side) xs)
 answers-turned t (render s a ∷ xs) = answers-turned t xs
 
 pub same-calls : Same-calls-same-hunks
 same-calls xs =
     let e = calls-turned new-table xs in
-    record { same-answers = answers-turned new-table xs; same-hunks = (ap (λ (u : Held). u .cs) e, ap (λ (u : Held). u .os) e) }
+    record { same-answers = answers-turned new-table xs; same-hunks = (ap (λ (u : Held). u .current) e, ap (λ (u : Held). u .other) e) }

@@ -6,24 +6,33 @@ use mathlib.Core.List.{List, [], _∷_, _++_, append-assoc}
 use lib.Seq.{drop-nil, drop-length}
 use Rattle.std.proofs.shelf.Elements.{all-weaker}
 use Rattle.std.proofs.shelf.Tests.{true≢false}
-use Rattle.rules.specs.Pieces.{common, ours, theirs}
 use Rattle.rules.specs.declared.hunk.Hunk.{Hunk}
 use Rattle.rules.specs.declared.mode.Conflict.the-variants.{ResolveWithOurs, ResolveWithTheirs, ResolveWithUnion}
 use Rattle.rules.specs.Lines.{Line, same-lines}
-use Rattle.rules.specs.Hunks.{Sheets, side-lines, walk, is-current, is-other}
-use Rattle.rules.specs.Groups.{Cluster, clusters, side-of, sides-differ}
-use Rattle.rules.specs.Contraction.{shared-back}
+use Rattle.rules.specs.SharedLines.{shared-back, past-start, at-end, middle, shared-start, shared-end}
+use Rattle.rules.specs.Hunks.{Sheets, side-lines}
+use Rattle.rules.specs.Walk.{walk, is-current, is-other}
+use Rattle.rules.specs.Groups.{Cluster, clusters}
+use Rattle.rules.specs.Filling.{side-of, sides-differ, ours-lines, theirs-lines}
+use Rattle.rules.specs.Sides.{Sides, contracted-sides, line-left}
 use Rattle.rules.specs.Endings.{ending-of, or-newline}
-use Rattle.rules.specs.Rendering.{close, each, Sides, contracted-sides, line-left, back-close, union-steps, marks, Labels, rendering}
-use Rattle.rules.specs.Agreement.{Kept, is-line, all-lines}
-use Rattle.rules.specs.Outline.{past-start, at-end, middle, shared-start, shared-end, ours-lines, theirs-lines}
-use Rattle.rules.specs.Laws.{Contraction-law, union-lines, with-groups, Side-laws}
-use Rattle.rules.proofs.Shared.{front-same, equal-middle, parts-join, parts-join-other, same-lines-true, same-lines-refl}
+use Rattle.rules.specs.Pieces.{common, ours, theirs}
+use Rattle.rules.specs.Steps.{close, each}
+use Rattle.rules.specs.Markers.{Labels}
+use Rattle.rules.specs.Unions.{back-close, union-steps}
+use Rattle.rules.specs.Rendering.{rendering}
+use Rattle.rules.specs.Verdict.{marks}
+use Rattle.rules.specs.Outline.{reads-as-line, all-lines}
+use Rattle.rules.specs.Order.{Kept}
+use Rattle.rules.specs.ContractionLaws.{Contraction-law}
+use Rattle.rules.specs.SideLaws.{union-lines, with-groups, Side-laws}
 use Rattle.rules.proofs.Contracting.{Sides-lines, sides-lines, nothing-left}
 use Rattle.rules.proofs.Fits.{Fit, kept-fit}
+use Rattle.rules.proofs.HunkCuts.{Led, led-cuts}
 use Rattle.rules.proofs.Longest.{start-stops, end-stops, rest-joins, rest-joins-other, Kinds, kinds}
-use Rattle.rules.proofs.Steps.{step-lines, step-join, each-kept}
+use Rattle.rules.proofs.Shared.{front-same, equal-middle, parts-join, parts-join-other, same-lines-true, same-lines-refl}
 use Rattle.rules.proofs.Spelled.{Written, written, all-given}
+use Rattle.rules.proofs.Steps.{step-lines, step-join, each-kept}
 
 equal-end : (xs ys : List Line) → xs ≡ ys → shared-end xs ys ≡ []
 equal-end xs ys e = nil-at (past-start xs ys) (past-start ys xs) (rw (← e) (rw (front-same xs) (drop-length xs)))
@@ -35,10 +44,10 @@ same-middle : (xs ys : List Line) → middle xs ys ≡ middle ys xs → xs ≡ y
 same-middle xs ys e = sym (parts-join xs ys) ∙ ap (λ (m : List Line). shared-start xs ys ++ (m ++ shared-end xs ys)) e ∙ parts-join-other xs ys
 
 pub contraction-law : (s : Sheets) (k : Cluster) → Fit s k → Contraction-law s k (contracted-sides s k)
-contraction-law s k fit = by (contracted-sides s k) (sides-lines s k (fit .ours) (fit .theirs)) (kinds s k (fit .lead))
+contraction-law s k fit = by (contracted-sides s k) (sides-lines s k (fit .ours) (fit .theirs)) (kinds s k (fit .lead)) (led-cuts s k (is-current (k .first .side)) (fit .ours) (fit .theirs))
   where
-    by : (d : Sides) → Sides-lines s (ours-lines s k) (theirs-lines s k) d → Kinds (k .first .side) d → Contraction-law s k d
-    by d p q =
+    by : (d : Sides) → Sides-lines s (ours-lines s k) (theirs-lines s k) d → Kinds (k .first .side) d → Led s k (is-current (k .first .side)) d → Contraction-law s k d
+    by d p q c =
         let xs = ours-lines s k in
         let ys = theirs-lines s k in
         record {
@@ -56,6 +65,8 @@ contraction-law s k fit = by (contracted-sides s k) (sides-lines s k (fit .ours)
           ours-left = q .ours-left;
           theirs-left = q .theirs-left;
           straight = q .straight;
+          ours-lead = λ e. c .ours (ap is-current e);
+          theirs-lead = λ e. c .theirs (ap is-current e);
         }
 
 -- Union's mark
@@ -75,39 +86,39 @@ union-marks s k fit =
     ap not (same-either (side-lines s (d .left)) (side-lines s (d .right)) (ours-lines s k) (theirs-lines s k) (p .then-equal) (λ e. let n = p .nothing-left e in n .0 ∙ sym (n .1)))
 
 -- Union's lines
-no-close : (s : Sheets) (d : Sides) (hs : List Hunk) → step-lines is-line (back-close s d hs) ≡ []
+no-close : (s : Sheets) (d : Sides) (hs : List Hunk) → step-lines reads-as-line (back-close s (d .right) hs) ≡ []
 no-close s d [] = refl
 no-close s d (h ∷ hs) = refl
 
 module _ (s : Sheets) (d : Sides) where
-  left-written : (b : Bool) → line-left s d ≡ b
-      → step-lines is-line (cond b (close (or-newline (ending-of s (d .front))) ∷ (each ours (side-lines s (d .left)) ++ (close (or-newline (ending-of s (d .left))) ∷ each theirs (side-lines s (d .right))))) []) ≡ side-lines s (d .left) ++ side-lines s (d .right)
-  left-written true e = step-join is-line (each ours (side-lines s (d .left))) (close (or-newline (ending-of s (d .left))) ∷ each theirs (side-lines s (d .right))) (each-kept is-line ours (side-lines s (d .left)) refl) (each-kept is-line theirs (side-lines s (d .right)) refl)
+  left-written : (b : Bool) → line-left s (d .left) (d .right) ≡ b
+      → step-lines reads-as-line (cond b (close (or-newline (ending-of s (d .front))) ∷ (each ours (side-lines s (d .left)) ++ (close (or-newline (ending-of s (d .left))) ∷ each theirs (side-lines s (d .right))))) []) ≡ side-lines s (d .left) ++ side-lines s (d .right)
+  left-written true e = step-join reads-as-line (each ours (side-lines s (d .left))) (close (or-newline (ending-of s (d .left))) ∷ each theirs (side-lines s (d .right))) (each-kept reads-as-line ours (side-lines s (d .left)) refl) (each-kept reads-as-line theirs (side-lines s (d .right)) refl)
   left-written false e = let n = nothing-left s d e in rw (n .0, n .1)
 
 append-four : (a b c d : List Line) → a ++ ((b ++ c) ++ d) ≡ a ++ (b ++ (c ++ d))
 append-four a b c d = simp append-assoc
 
-pub union-written : (s : Sheets) (d : Sides) → step-lines is-line (union-steps s d) ≡ side-lines s (d .front) ++ (side-lines s (d .left) ++ (side-lines s (d .right) ++ side-lines s (d .back)))
+pub union-written : (s : Sheets) (d : Sides) → step-lines reads-as-line (union-steps s d) ≡ side-lines s (d .front) ++ (side-lines s (d .left) ++ (side-lines s (d .right) ++ side-lines s (d .back)))
 union-written s d =
-    let mid = cond (line-left s d) (close (or-newline (ending-of s (d .front))) ∷ (each ours (side-lines s (d .left)) ++ (close (or-newline (ending-of s (d .left))) ∷ each theirs (side-lines s (d .right))))) [] in
-    let bc = back-close s d (d .back) in
+    let mid = cond (line-left s (d .left) (d .right)) (close (or-newline (ending-of s (d .front))) ∷ (each ours (side-lines s (d .left)) ++ (close (or-newline (ending-of s (d .left))) ∷ each theirs (side-lines s (d .right))))) [] in
+    let bc = back-close s (d .right) (d .back) in
     let eb = each common (side-lines s (d .back)) in
-    step-join is-line (each common (side-lines s (d .front))) (mid ++ (bc ++ eb)) (each-kept is-line common (side-lines s (d .front)) refl)
-    (step-join is-line mid (bc ++ eb) (left-written s d (line-left s d) refl)
-    (step-join is-line bc eb (no-close s d (d .back)) (each-kept is-line common (side-lines s (d .back)) refl)))
+    step-join reads-as-line (each common (side-lines s (d .front))) (mid ++ (bc ++ eb)) (each-kept reads-as-line common (side-lines s (d .front)) refl)
+    (step-join reads-as-line mid (bc ++ eb) (left-written s d (line-left s (d .left) (d .right)) refl)
+    (step-join reads-as-line bc eb (no-close s d (d .back)) (each-kept reads-as-line common (side-lines s (d .back)) refl)))
     ∙ append-four (side-lines s (d .front)) (side-lines s (d .left)) (side-lines s (d .right)) (side-lines s (d .back))
 
 module _ (s : Sheets) (cs os : List Hunk) where
   pub ours-written : (l : Labels) → all-lines (rendering ResolveWithOurs s l cs os) ≡ with-groups (λ k. side-lines s (side-of is-current k)) s 0 (clusters (walk cs os))
   ours-written l =
       let g : Cluster → List Line = λ k. side-lines s (side-of is-current k) in
-      written ResolveWithOurs s l g cs os (all-given (Written ResolveWithOurs s l g) (clusters (walk cs os)) (λ k since. each-kept is-line common (g k) refl))
+      written ResolveWithOurs s l g cs os (all-given (Written ResolveWithOurs s l g) (clusters (walk cs os)) (λ k since. each-kept reads-as-line common (g k) refl))
 
   pub theirs-written : (l : Labels) → all-lines (rendering ResolveWithTheirs s l cs os) ≡ with-groups (λ k. side-lines s (side-of is-other k)) s 0 (clusters (walk cs os))
   theirs-written l =
       let g : Cluster → List Line = λ k. side-lines s (side-of is-other k) in
-      written ResolveWithTheirs s l g cs os (all-given (Written ResolveWithTheirs s l g) (clusters (walk cs os)) (λ k since. each-kept is-line common (g k) refl))
+      written ResolveWithTheirs s l g cs os (all-given (Written ResolveWithTheirs s l g) (clusters (walk cs os)) (λ k since. each-kept reads-as-line common (g k) refl))
 
   pub side-laws : Kept s cs os → Side-laws s cs os
   side-laws p = record {

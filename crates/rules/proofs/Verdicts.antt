@@ -6,20 +6,24 @@ use mathlib.Core.List.{List, [], _∷_}
 use Rattle.std.specs.shelf.Lists.{All}
 use Rattle.std.proofs.shelf.Elements.{all-weaker}
 use Rattle.rules.specs.declared.hunk.Hunk.{Hunk}
-use Rattle.rules.specs.declared.mode.ConflictStyle.{ConflictStyle}
-use Rattle.rules.specs.declared.mode.ConflictStyle.the-variants.{Merge, Diff3, ZealousDiff3}
 use Rattle.rules.specs.declared.mode.Conflict as modes
 use Rattle.rules.specs.declared.mode.Conflict.the-variants.{Keep, ResolveWithOurs, ResolveWithTheirs}
+use Rattle.rules.specs.declared.mode.ConflictStyle.{ConflictStyle}
+use Rattle.rules.specs.declared.mode.ConflictStyle.the-variants.{Merge, Diff3, ZealousDiff3}
 use Rattle.rules.specs.declared.mode.Resolution.the-variants.{Complete, CompleteWithAutoResolvedConflict, Conflict}
-use Rattle.rules.specs.Hunks.{Sheets, walk}
-use Rattle.rules.specs.Groups.{Cluster, clusters, is-group, sides-differ}
-use Rattle.rules.specs.Rendering.{blocked, sides-in, contracted-sides, marks, any-marked, verdict}
-use Rattle.rules.specs.Agreement.{Kept, some-group-differs}
-use Rattle.rules.specs.Outline.{ours-lines, theirs-lines}
+use Rattle.rules.specs.Hunks.{Sheets}
+use Rattle.rules.specs.Walk.{walk}
+use Rattle.rules.specs.Groups.{Cluster, clusters, is-group}
+use Rattle.rules.specs.Filling.{sides-differ, ours-lines, theirs-lines}
+use Rattle.rules.specs.Sides.{sides-in, contracted-sides}
+use Rattle.rules.specs.Blocks.{blocked}
+use Rattle.rules.specs.Verdict.{marks, any-marked, verdict}
+use Rattle.rules.specs.Order.{Kept}
+use Rattle.rules.specs.VerdictLaws.{some-group-differs}
 use Rattle.rules.proofs.Contracting.{sides-lines, left-is}
 use Rattle.rules.proofs.Fits.{Fit, kept-fit}
 
-pub blocked-is : (st : ConflictStyle) (s : Sheets) (k : Cluster) → Fit s k → blocked st s k (sides-in st s k) ≡ sides-differ s k
+pub blocked-is : (st : ConflictStyle) (s : Sheets) (k : Cluster) → Fit s k → blocked st s (sides-in st s k .left) (sides-in st s k .right) ≡ sides-differ s k
 blocked-is Merge s k p = left-is s (ours-lines s k) (theirs-lines s k) (contracted-sides s k) (sides-lines s k (p .ours) (p .theirs))
 blocked-is Diff3 s k p = refl
 blocked-is ZealousDiff3 s k p = left-is s (ours-lines s k) (theirs-lines s k) (contracted-sides s k) (sides-lines s k (p .ours) (p .theirs))

@@ -9,15 +9,17 @@ use lib.ListN.{length}
 use lib.Dec.{leb}
 use Rattle.std.specs.shelf.Lists.{All, kept-by}
 use Rattle.std.proofs.shelf.Tests.{true≢false, leb-true, leb-false, cond-both, cases-order, and-cases, not-true, le-leb, and-parts, and-from, cases-lt}
+use Rattle.rules.specs.declared.hunk.Hunk.{Hunk}
 use Rattle.rules.specs.declared.hunk.Side.{Side}
 use Rattle.rules.specs.declared.hunk.Side.the-variants.{Current, Other, Ancestor}
-use Rattle.rules.specs.declared.hunk.Hunk.{Hunk}
-use Rattle.rules.specs.Hunks.{Sheets, opposite, touches, touches-any, walk}
-use Rattle.rules.specs.Agreement.{Kept, lone-ones}
-use Rattle.rules.specs.Laws.{Opposite, Touching, Touch-law, In-turn, Ahead, Behind, Walked}
+use Rattle.rules.specs.Hunks.{Sheets, opposite, touches, touches-any, lone-ones}
+use Rattle.rules.specs.Walk.{walk}
+use Rattle.rules.specs.Order.{Kept}
+use Rattle.rules.specs.WalkLaws.{Opposite, Touching, Touch-law, In-turn, Ahead, Walked}
+use Rattle.rules.specs.GroupLaws.{Behind}
 use Rattle.rules.proofs.Fits.{walk-all}
-use Rattle.rules.proofs.Woven.{Run, runs, run-side, any-false, touches-sym}
 use Rattle.rules.proofs.Kept.{currents-walk, others-walk}
+use Rattle.rules.proofs.Woven.{Run, runs, run-side, any-false, touches-sym}
 
 pub all-of : {X : Type 0} (P : X → Type 0) (xs : List X) → ((x : X) → List·Memᴰ x xs → P x) → All P xs
 all-of P [] f = tt

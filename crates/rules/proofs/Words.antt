@@ -2,7 +2,7 @@
 use mathlib.Core.Path.{_≡_, refl, sym, ap, _∙_}
 use mathlib.Core.Bool.{Bool, true, false, cond, _&&_}
 use mathlib.Core.List.{List, [], _∷_, List·Memᴰ, List·Memᴰ·head, List·Memᴰ·tail, List·Memᴰ·cases-cons, List·Memᴰ·not-nil}
-use mathlib.Core.Logic.{_⊎_, inl, inr, ⊎-elim}
+use mathlib.Core.Logic.{inl, inr, ⊎-elim}
 use Rattle.std.proofs.shelf.Tests.{false≢true, cases-bool, and-parts, and-from, or-cases, or-left, or-right, not-true, not-from-false}
 use Rattle.std.proofs.shelf.Elements.{all-weaker}
 use Rattle.rules.specs.declared.hunk.Hunk.{Hunk}
@@ -10,16 +10,17 @@ use Rattle.rules.specs.declared.mode.Conflict.the-variants.{Keep, ResolveWithU
 use Rattle.rules.specs.declared.mode.Resolution.{Resolution}
 use Rattle.rules.specs.declared.mode.Resolution.the-variants.{Complete, CompleteWithAutoResolvedConflict, Conflict}
 use Rattle.rules.specs.Lines.{Line, same-lines}
-use Rattle.rules.specs.Hunks.{Sheets, walk}
-use Rattle.rules.specs.Groups.{Cluster, clusters, is-group, sides-differ}
-use Rattle.rules.specs.Rendering.{marks, verdict}
-use Rattle.rules.specs.Agreement.{Kept, some-group-differs}
-use Rattle.rules.specs.Outline.{ours-lines, theirs-lines}
-use Rattle.rules.specs.Laws.{Some-group-differs, Exactly-when, Verdict-laws}
-use Rattle.rules.proofs.Shared.{same-lines-true, same-lines-refl}
+use Rattle.rules.specs.Hunks.{Sheets}
+use Rattle.rules.specs.Walk.{walk}
+use Rattle.rules.specs.Groups.{Cluster, clusters, is-group}
+use Rattle.rules.specs.Filling.{sides-differ, ours-lines, theirs-lines}
+use Rattle.rules.specs.Verdict.{marks, verdict}
+use Rattle.rules.specs.Order.{Kept}
+use Rattle.rules.specs.VerdictLaws.{some-group-differs, Some-group-differs, Exactly-when, Verdict-laws}
 use Rattle.rules.proofs.Fits.{Fit, kept-fit}
-use Rattle.rules.proofs.Verdicts.{marked-is, keep-verdict, ours-verdict, theirs-verdict}
+use Rattle.rules.proofs.Shared.{same-lines-true, same-lines-refl}
 use Rattle.rules.proofs.Unions.{union-marks}
+use Rattle.rules.proofs.Verdicts.{marked-is, keep-verdict, ours-verdict, theirs-verdict}
 
 same-from : (xs ys : List Line) → xs ≡ ys → same-lines xs ys ≡ true
 same-from xs ys e = rw (← e) (same-lines-refl xs)

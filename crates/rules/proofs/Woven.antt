@@ -7,11 +7,12 @@ use mathlib.Core.Bool.{Bool, true, false, cond, _&&_}
 use mathlib.Core.List.{List, [], _∷_, List·Memᴰ, List·Memᴰ·head, List·Memᴰ·tail, List·Memᴰ·cases-cons, List·Memᴰ·not-nil}
 use lib.Dec.{leb}
 use Rattle.std.proofs.shelf.Tests.{true≢false, leb-true, leb-false, lt-leb, cond-both, or-parts, or-cases, or-from, or-left, or-right, and-cases, and-left, and-right}
+use Rattle.rules.specs.declared.hunk.Hunk.{Hunk}
 use Rattle.rules.specs.declared.hunk.Side.{Side}
 use Rattle.rules.specs.declared.hunk.Side.the-variants.{Current, Other, Ancestor}
-use Rattle.rules.specs.declared.hunk.Hunk.{Hunk}
-use Rattle.rules.specs.Hunks.{opposite, touches, touches-any, walk}
-use Rattle.rules.specs.Agreement.{In-order}
+use Rattle.rules.specs.Hunks.{opposite, touches, touches-any}
+use Rattle.rules.specs.Walk.{walk}
+use Rattle.rules.specs.Order.{In-order}
 
 -- the two sides that are walked
 abbrev pub Sided : Side → Type 0

@@ -4,19 +4,23 @@ use mathlib.Core.Path.{_≡_}
 use mathlib.Core.List.{List, [], _∷_, _++_}
 use Rattle.std.specs.declared.option.Option.the-variants.{None, Some}
 use lib.Chars.{codes}
-use Rattle.rules.specs.Pieces.{all-bytes}
+use Rattle.std.specs.declared.result.Result.the-variants.{Ok, Err}
+use Rattle.rules.specs.declared.hunk.Hunk.{Hunk}
 use Rattle.rules.specs.declared.hunk.Side.{Side}
 use Rattle.rules.specs.declared.hunk.Side.the-variants.{Current, Other}
-use Rattle.rules.specs.declared.hunk.Hunk.{Hunk}
-use Rattle.rules.specs.declared.mode.ConflictStyle.the-variants.{Merge, Diff3, ZealousDiff3}
 use Rattle.rules.specs.declared.mode.Conflict as modes
 use Rattle.rules.specs.declared.mode.Conflict.the-variants.{Keep, ResolveWithOurs, ResolveWithTheirs, ResolveWithUnion}
+use Rattle.rules.specs.declared.mode.ConflictStyle.the-variants.{Merge, Diff3, ZealousDiff3}
 use Rattle.rules.specs.declared.mode.Resolution.{Resolution}
 use Rattle.rules.specs.declared.mode.Resolution.the-variants.{Complete, CompleteWithAutoResolvedConflict, Conflict}
+use Rattle.rules.specs.declared.refusal.TableRefusal.the-variants.{NotBehindLast}
 use Rattle.rules.specs.Lines.{Line}
 use Rattle.rules.specs.Hunks.{Sheets}
-use Rattle.rules.specs.Rendering.{rendering, verdict, Labels}
-use Rattle.rules.specs.Tables.{opened, no, counted, refused, enter-answer, enter-after}
+use Rattle.rules.specs.Pieces.{all-bytes}
+use Rattle.rules.specs.Markers.{Labels}
+use Rattle.rules.specs.Rendering.{rendering}
+use Rattle.rules.specs.Verdict.{verdict}
+use Rattle.rules.specs.Tables.{opened, enter-answer, enter-after}
 
 -- The hunk a..b/c..d of the current side, and of the other side.
 abbrev pub hunk : Side → ℕ → ℕ → ℕ → ℕ → Hunk
@@ -122,8 +126,8 @@ pub record Cases : Type 0 where
   pub no-newline-in-merge : Gives (open-lines (codes "a") (codes "b") (codes "c")) (Keep Merge 7) (codes "<<<<<<<\nb\n=======\nc\n>>>>>>>\n") Conflict
   pub no-newline-same-in-all : Always (open-lines (codes "a") (codes "b") (codes "b")) (codes "b") Complete
   -- the table: behind 0..1/0..1 a hunk that starts at its end is refused, one that leaves a line between is not
-  pub touching-enter-refused : enter-answer (enter-after (opened 2 3 3) (cur 0 1 0 1)) (cur 1 1 1 2) ≡ refused (no 12 0)
-  pub later-enter-taken : enter-answer (enter-after (opened 2 3 3) (cur 0 1 0 1)) (cur 2 2 2 3) ≡ counted 2
+  pub touching-enter-refused : enter-answer (enter-after (opened 2 3 3) (cur 0 1 0 1)) (cur 1 1 1 2) ≡ Err NotBehindLast
+  pub later-enter-taken : enter-answer (enter-after (opened 2 3 3) (cur 0 1 0 1)) (cur 2 2 2 3) ≡ Ok 2
   -- a block's markers take the front's ending, that of the base its own; an empty label still has its space
   pub front-ending-in-merge : Gives front-ending (Keep Merge 7) (codes "k\nx" ++ (ret ++ (codes "<<<<<<<" ++ (ret ++ (codes "p\n=======" ++ (ret ++ (codes "q\n>>>>>>>" ++ ret))))))) Conflict
   pub labels-in-zealous : Gives-labelled front-ending three-labels (Keep ZealousDiff3 7)

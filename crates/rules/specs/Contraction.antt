@@ -1,14 +1,15 @@
--- Contraction: the equal lines at both ends of a group's sides leave the sides.
+-- Contraction: the longest equal run of leading lines leaves both sides of a group, then that of trailing lines among the rest. It works on hunks:
+-- whole hunks leave, and one hunk is cut in its place. A hunk without lines goes along only with a removed line that it stands before or behind.
 use Prim.Native.Nat.{ℕ, _+_, _-_}
 use mathlib.Core.Bool.{cond, _&&_, not}
-use mathlib.Core.List.{List, [], _∷_, reverse}
+use mathlib.Core.List.{List, [], _∷_}
 use lib.ListN.{length}
 use lib.Dec.{leb, eqb}
+use Rattle.rules.specs.declared.hunk.Hunk.{Hunk}
 use Rattle.rules.specs.declared.hunk.Side.{Side}
 use Rattle.rules.specs.declared.hunk.Side.the-variants.{Current, Other, Ancestor}
 use Rattle.rules.specs.declared.hunk.Span.{Span}
-use Rattle.rules.specs.declared.hunk.Hunk.{Hunk}
-use Rattle.rules.specs.Lines.{Line, shared-front}
+use Rattle.rules.specs.SharedLines.{shared-front, shared-back}
 use Rattle.rules.specs.Hunks.{Sheets, side-lines}
 
 -- The range that is read of a hunk.
@@ -60,9 +61,6 @@ pub record Contracted : Type 0 where
   pub lead : List Hunk
   pub facing : List Hunk
   pub back : List Hunk
-
-abbrev pub shared-back : List Line → List Line → ℕ
-shared-back xs ys = shared-front (reverse xs) (reverse ys)
 
 abbrev pub trimmed : Sheets → List Hunk → List Hunk → List Hunk → Contracted
 trimmed s front a b =

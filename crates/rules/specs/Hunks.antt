@@ -1,11 +1,12 @@
--- Hunks: which lines they stand for, when two touch, and the order in which they are walked.
-use mathlib.Core.Bool.{Bool, true, false, cond, _&&_, _||_}
+-- Hunks: the lines that they stand for, and when two touch. A hunk of Current or Other stands for its after range in its side's sheet, an Ancestor
+-- hunk for its before range in the ancestor.
+use mathlib.Core.Bool.{Bool, true, false, _&&_, _||_, not}
 use mathlib.Core.List.{List, [], _∷_, _++_}
 use lib.Dec.{leb}
 use Rattle.std.specs.shelf.Lists.{kept-by}
+use Rattle.rules.specs.declared.hunk.Hunk.{Hunk}
 use Rattle.rules.specs.declared.hunk.Side.{Side}
 use Rattle.rules.specs.declared.hunk.Side.the-variants.{Current, Other, Ancestor}
-use Rattle.rules.specs.declared.hunk.Hunk.{Hunk}
 use Rattle.rules.specs.Lines.{Line, between}
 
 -- The three sheets, each as its lines.
@@ -13,6 +14,14 @@ pub record Sheets : Type 0 where
   pub ancestor : List Line
   pub current : List Line
   pub other : List Line
+
+abbrev pub sheets-of : List Line → List Line → List Line → Sheets
+sheets-of a c o = record { ancestor = a; current = c; other = o }
+
+abbrev pub sheet-of : Sheets → Side → List Line
+sheet-of s Current = s .current
+sheet-of s Other = s .other
+sheet-of s Ancestor = s .ancestor
 
 -- A hunk's lines, read from the sheet that its side names.
 abbrev pub lines-by : Sheets → Side → Hunk → List Line
@@ -46,31 +55,6 @@ abbrev pub touches-any : Hunk → List Hunk → Bool
 touches-any a [] = false
 touches-any a (b ∷ bs) = touches a b || touches-any a bs
 
--- Both lists together by before.start, Current first at equal starts.
-abbrev pub walk-from : Hunk → (List Hunk → List Hunk) → List Hunk → List Hunk
-walk-from c rest [] = c ∷ rest []
-walk-from c rest (o ∷ os) = cond (leb (c .before .start) (o .before .start)) (c ∷ rest (o ∷ os)) (o ∷ walk-from c rest os)
-
-abbrev pub walk : List Hunk → List Hunk → List Hunk
-walk [] os = os
-walk (c ∷ cs) os = walk-from c (walk cs) os
-
-abbrev pub is-current : Side → Bool
-is-current Current = true
-is-current Other = false
-is-current Ancestor = false
-
-abbrev pub is-other : Side → Bool
-is-other Current = false
-is-other Other = true
-is-other Ancestor = false
-
--- The hunks of a list whose side passes a test; those of the current side, and of the other side.
-abbrev pub picked : (Side → Bool) → List Hunk → List Hunk
-picked f = kept-by (λ h. f (h .side))
-
-abbrev pub currents : List Hunk → List Hunk
-currents = picked is-current
-
-abbrev pub others : List Hunk → List Hunk
-others = picked is-other
+-- The hunks of a list that touch none of the facing side.
+abbrev pub lone-ones : List Hunk → List Hunk → List Hunk
+lone-ones facing = kept-by (λ h. not (touches-any h facing))

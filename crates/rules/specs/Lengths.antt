@@ -2,13 +2,15 @@
 use Prim.Native.Nat.{ℕ, _+_, _≤_, _<_}
 use mathlib.Core.List.{List, [], _∷_}
 use lib.ListN.{length}
-use Rattle.rules.specs.Pieces.{total}
 use Rattle.rules.specs.declared.hunk.Hunk.{Hunk}
 use Rattle.rules.specs.declared.mode.Conflict as modes
+use Rattle.rules.specs.Limits.{max-bytes}
 use Rattle.rules.specs.Lines.{Line}
 use Rattle.rules.specs.Hunks.{Sheets}
-use Rattle.rules.specs.Rendering.{Labels, rendering}
-use Rattle.rules.specs.Renders.{Size-fits, Label-fits}
+use Rattle.rules.specs.Pieces.{total}
+use Rattle.rules.specs.Markers.{Labels}
+use Rattle.rules.specs.Rendering.{rendering}
+use Rattle.rules.specs.RenderLaws.{Size-fits, Label-fits}
 
 abbrev pub bytes-of : List Line → ℕ
 bytes-of [] = 0
@@ -16,9 +18,9 @@ bytes-of (l ∷ ls) = length l + bytes-of ls
 
 -- No sheet is longer than 60,000 bytes.
 pub record Short-sheets (s : Sheets) : Type 0 where
-  pub ancestor : bytes-of (s .ancestor) ≤ 60000
-  pub current : bytes-of (s .current) ≤ 60000
-  pub other : bytes-of (s .other) ≤ 60000
+  pub ancestor : bytes-of (s .ancestor) ≤ max-bytes
+  pub current : bytes-of (s .current) ≤ max-bytes
+  pub other : bytes-of (s .other) ≤ max-bytes
 
 pub record Labels-fit (l : Labels) : Type 0 where
   pub ancestor : Label-fits (l .ancestor)

@@ -1,66 +1,143 @@
--- The outline of a rendering that keeps conflicts, characterised by the groups of the walk.
+-- Reading a rendering: its lines by part, and its outline. The outline of a rendering that keeps conflicts lists its common lines and its blocks, each
+-- block with its ours, base and theirs lines. It is read off the pieces by counting a marker's pieces, never by their bytes: a label may look like a marker.
 use Prim.Native.Nat.{ℕ, _-_}
-use mathlib.Core.Path.{_≡_}
-use mathlib.Core.Bool.{cond}
-use mathlib.Core.List.{List, [], _∷_, _++_, map}
-use lib.ListN.{length, take, drop}
-use Rattle.rules.specs.declared.hunk.Hunk.{Hunk}
+use mathlib.Core.Bool.{Bool, true, false, cond}
+use mathlib.Core.List.{List, [], _∷_, _++_}
+use Rattle.std.specs.declared.option.Option.{Option}
+use Rattle.std.specs.declared.option.Option.the-variants.{None, Some}
+use lib.Dec.{eqb}
 use Rattle.rules.specs.declared.mode.ConflictStyle.{ConflictStyle}
-use Rattle.rules.specs.declared.mode.Conflict.the-variants.{Keep}
-use Rattle.rules.specs.Lines.{Line, between, shared-front}
-use Rattle.rules.specs.Hunks.{Sheets, hunk-lines, side-lines, walk}
-use Rattle.rules.specs.Groups.{Cluster, clusters, from, to, is-group, ours-of, theirs-of, sides-differ}
-use Rattle.rules.specs.Contraction.{shared-back}
-use Rattle.rules.specs.Rendering.{Labels, contracts, with-base, rendering}
-use Rattle.rules.specs.Agreement.{Kept, Item, line, block, outline}
+use Rattle.rules.specs.Lines.{Line}
+use Rattle.rules.specs.Sides.{with-base}
+use Rattle.rules.specs.Pieces.{Kind, common, ours, base, theirs, marker, ending, Chunk}
+use Rattle.rules.specs.Markers.{Labels}
 
--- Two lists of lines: what they share at the front, what they share at the back of the rest, and what is left of the first.
-abbrev pub shared-start : List Line → List Line → List Line
-shared-start xs ys = take (shared-front xs ys) xs
+-- The lines of a rendering, every block replaced by its ours part, or by its theirs part.
+abbrev pub reads-as-ours : Kind → Bool
+reads-as-ours common = true
+reads-as-ours ours = true
+reads-as-ours base = false
+reads-as-ours theirs = false
+reads-as-ours marker = false
+reads-as-ours ending = false
 
-abbrev pub past-start : List Line → List Line → List Line
-past-start xs ys = drop (shared-front xs ys) xs
+abbrev pub reads-as-theirs : Kind → Bool
+reads-as-theirs common = true
+reads-as-theirs ours = false
+reads-as-theirs base = false
+reads-as-theirs theirs = true
+reads-as-theirs marker = false
+reads-as-theirs ending = false
 
-abbrev pub before-end : List Line → List Line → List Line
-before-end xs ys = take (length xs - shared-back xs ys) xs
+abbrev pub reads-as-line : Kind → Bool
+reads-as-line common = true
+reads-as-line ours = true
+reads-as-line base = true
+reads-as-line theirs = true
+reads-as-line marker = false
+reads-as-line ending = false
 
-abbrev pub at-end : List Line → List Line → List Line
-at-end xs ys = drop (length xs - shared-back xs ys) xs
+abbrev pub lines-kept : (Kind → Bool) → List Chunk → List Line
+lines-kept f [] = []
+lines-kept f (c ∷ cs) = cond (f (c .kind)) (c .bytes ∷ lines-kept f cs) (lines-kept f cs)
 
-abbrev pub middle : List Line → List Line → List Line
-middle xs ys = before-end (past-start xs ys) (past-start ys xs)
+abbrev pub all-lines : List Chunk → List Line
+all-lines = lines-kept reads-as-line
 
-abbrev pub shared-end : List Line → List Line → List Line
-shared-end xs ys = at-end (past-start xs ys) (past-start ys xs)
+-- The outline of a Keep rendering, read off its pieces.
+pub data Item : Type 0 where
+  line : Line → Item
+  block : (o b t : List Line) → Item
 
--- The two sides of a group as lines.
-abbrev pub ours-lines : Sheets → Cluster → List Line
-ours-lines s k = side-lines s (ours-of k)
+pub data Part : Type 0 where
+  outside : Part
+  in-o : Part
+  in-b : Part
+  in-t : Part
 
-abbrev pub theirs-lines : Sheets → Cluster → List Line
-theirs-lines s k = side-lines s (theirs-of k)
+-- How many pieces of a marker follow its first.
+abbrev pub more-pieces : Option (List ℕ) → ℕ
+more-pieces None = 1
+more-pieces (Some l) = 3
 
--- The outline of a rendering that keeps conflicts, from the clusters: common lines and blocks. A group whose sides agree gives their lines,
--- any other group a block; outside Diff3 the lines that the sides share at both ends stand outside the block.
-abbrev pub drawn-in : List Line → List Line → List Line → List Item
-drawn-in xs b ys = map line (shared-start xs ys) ++ (block (middle xs ys) b (middle ys xs) ∷ map line (shared-end xs ys))
+pub record Reading : Type 0 where
+  pub part : Part
+  pub skip : ℕ
+  pub o : List Line
+  pub b : List Line
+  pub t : List Line
 
-abbrev pub block-items : ConflictStyle → List Line → List Line → List Line → List Item
-block-items st xs b ys = cond (contracts st) (drawn-in xs b ys) (block xs b ys ∷ [])
+abbrev pub start : Reading
+start = record { part = outside; skip = 0; o = []; b = []; t = [] }
 
-abbrev pub base-part : ConflictStyle → Sheets → Cluster → List Line
-base-part st s k = cond (with-base st) (between (s .ancestor) (from k) (to k)) []
+abbrev pub next-part : ConflictStyle → Part → Part
+next-part st outside = in-o
+next-part st in-o = cond (with-base st) in-b in-t
+next-part st in-b = in-t
+next-part st in-t = outside
 
-abbrev pub group-items : ConflictStyle → Sheets → Cluster → List Item
-group-items st s k = cond (sides-differ s k) (block-items st (ours-lines s k) (base-part st s k) (theirs-lines s k)) (map line (ours-lines s k))
+abbrev pub next-skip : Labels → Part → ℕ
+next-skip l outside = more-pieces (l .other)
+next-skip l in-o = more-pieces (l .current)
+next-skip l in-b = more-pieces (l .ancestor)
+next-skip l in-t = 1
 
-abbrev pub cluster-items : ConflictStyle → Sheets → Cluster → List Item
-cluster-items st s k = cond (is-group k) (group-items st s k) (map line (hunk-lines s (k .first)))
+abbrev pub closing : Reading → Part → List Item
+closing r outside = []
+closing r in-o = []
+closing r in-b = []
+closing r in-t = block (r .o) (r .b) (r .t) ∷ []
 
-abbrev pub items : ConflictStyle → Sheets → ℕ → List Cluster → List Item
-items st s since [] = map line (drop since (s .ancestor))
-items st s since (k ∷ ks) = map line (between (s .ancestor) since (from k)) ++ (cluster-items st s k ++ items st s (to k) ks)
+abbrev pub moved : ConflictStyle → Labels → Reading → Part → Reading
+moved st l r outside = record { part = next-part st outside; skip = next-skip l (next-part st outside); o = []; b = []; t = [] }
+moved st l r in-o = record { part = next-part st in-o; skip = next-skip l (next-part st in-o); o = r .o; b = r .b; t = r .t }
+moved st l r in-b = record { part = next-part st in-b; skip = next-skip l (next-part st in-b); o = r .o; b = r .b; t = r .t }
+moved st l r in-t = record { part = next-part st in-t; skip = next-skip l (next-part st in-t); o = []; b = []; t = [] }
 
-abbrev pub Outlined : Type 0
-Outlined = (s : Sheets) (cs os : List Hunk) → Kept s cs os → (st : ConflictStyle) (n : ℕ) (l : Labels)
-    → outline st l (rendering (Keep st n) s l cs os) ≡ items st s 0 (clusters (walk cs os))
+abbrev pub skipped : Reading → Reading
+skipped r = record { part = r .part; skip = r .skip - 1; o = r .o; b = r .b; t = r .t }
+
+abbrev pub read-kind : ConflictStyle → Labels → Reading → Kind → Line → Reading
+read-kind st l r common x = r
+read-kind st l r ours x = record { part = r .part; skip = r .skip; o = r .o ++ (x ∷ []); b = r .b; t = r .t }
+read-kind st l r base x = record { part = r .part; skip = r .skip; o = r .o; b = r .b ++ (x ∷ []); t = r .t }
+read-kind st l r theirs x = record { part = r .part; skip = r .skip; o = r .o; b = r .b; t = r .t ++ (x ∷ []) }
+read-kind st l r marker x = cond (eqb (r .skip) 0) (moved st l r (r .part)) (skipped r)
+read-kind st l r ending x = r
+
+abbrev pub given-by : Reading → Kind → Line → List Item
+given-by r common x = line x ∷ []
+given-by r ours x = []
+given-by r base x = []
+given-by r theirs x = []
+given-by r marker x = cond (eqb (r .skip) 0) (closing r (r .part)) []
+given-by r ending x = []
+
+abbrev pub read-on : ConflictStyle → Labels → Reading → List Chunk → List Item
+read-on st l r [] = []
+read-on st l r (c ∷ cs) = given-by r (c .kind) (c .bytes) ++ read-on st l (read-kind st l r (c .kind) (c .bytes)) cs
+
+abbrev pub outline : ConflictStyle → Labels → List Chunk → List Item
+outline st l cs = read-on st l start cs
+
+-- Whether an outline has a block, and its lines where each block gives its ours part, its theirs part, or all of its lines.
+abbrev pub has-block : List Item → Bool
+has-block [] = false
+has-block (line x ∷ is) = has-block is
+has-block (block o b t ∷ is) = true
+
+abbrev pub ours-part : Item → List Line
+ours-part (line x) = x ∷ []
+ours-part (block o b t) = o
+
+abbrev pub theirs-part : Item → List Line
+theirs-part (line x) = x ∷ []
+theirs-part (block o b t) = t
+
+abbrev pub every-part : Item → List Line
+every-part (line x) = x ∷ []
+every-part (block o b t) = o ++ (b ++ t)
+
+abbrev pub spelled : (Item → List Line) → List Item → List Line
+spelled f [] = []
+spelled f (i ∷ is) = f i ++ spelled f is

@@ -30,3 +30,10 @@ total (c ∷ cs) = length (c .bytes) + total cs
 abbrev pub made : {V : Type 0} → (V → Chunk → V) → V → List Chunk → V
 made rule v [] = v
 made rule v (c ∷ cs) = made rule (rule v c) cs
+
+-- At two kinds of sink: one that keeps the pieces, and one that keeps their bytes.
+abbrev pub one-more : List Chunk → Chunk → List Chunk
+one-more cs c = cs ++ (c ∷ [])
+
+abbrev pub more-bytes : List ℕ → Chunk → List ℕ
+more-bytes bs c = bs ++ c .bytes

@@ -1,20 +1,26 @@
 -- Size and render: what they ask, answer and leave in a sink.
-use Prim.Native.Nat.{ℕ, _+_, _≤_}
-use mathlib.Core.Path.{_≡_}
-use mathlib.Core.Bool.{Bool, true, cond, _&&_}
-use mathlib.Core.List.{List, [], _∷_, _++_}
-use mathlib.Core.Logic.{_⊎_}
+use Prim.Native.Nat.{ℕ}
+use mathlib.Core.Bool.{Bool, true, _&&_}
+use mathlib.Core.List.{List}
 use Rattle.std.specs.declared.option.Option.{Option}
 use Rattle.std.specs.declared.option.Option.the-variants.{None, Some}
+use Rattle.std.specs.declared.result.Result.{Result}
 use lib.ListN.{length}
 use lib.Dec.{leb, eqb}
-use Rattle.rules.specs.Pieces.{Chunk, all-bytes, total, made}
+use Rattle.rules.specs.declared.hunk.Side.the-variants.{Current, Other, Ancestor}
 use Rattle.rules.specs.declared.mode.Conflict as modes
 use Rattle.rules.specs.declared.mode.Conflict.the-variants.{Keep, ResolveWithOurs, ResolveWithTheirs, ResolveWithUnion}
 use Rattle.rules.specs.declared.mode.Resolution.{Resolution}
+use Rattle.rules.specs.declared.refusal.RenderRefusal.{RenderRefusal}
+use Rattle.rules.specs.declared.refusal.RenderRefusal.the-variants.{CountsDiffer, MarkerSize, LabelTooLong, SinkTooSmall}
+use Rattle.rules.specs.Limits.{max-label, max-marker-size}
 use Rattle.rules.specs.Hunks.{Sheets}
-use Rattle.rules.specs.Rendering.{Labels, rendering, verdict}
-use Rattle.rules.specs.Tables.{Held, Refusal, Answer, counted, judged, refused, ask, answered, Question}
+use Rattle.rules.specs.Pieces.{Chunk, total, made}
+use Rattle.rules.specs.Markers.{Labels}
+use Rattle.rules.specs.Rendering.{rendering}
+use Rattle.rules.specs.Verdict.{verdict}
+use Rattle.rules.specs.Questions.{ask, answered, changed}
+use Rattle.rules.specs.Tables.{Held}
 
 -- What a render is asked for: a mode, labels, and a sink of some capacity.
 pub record Asked : Type 0 where
@@ -23,46 +29,45 @@ pub record Asked : Type 0 where
   pub capacity : ℕ
 
 abbrev pub size-fits : modes.Conflict → Bool
-size-fits (Keep style n) = leb 1 n && leb n 255
+size-fits (Keep style n) = leb 1 n && leb n max-marker-size
 size-fits ResolveWithOurs = true
 size-fits ResolveWithTheirs = true
 size-fits ResolveWithUnion = true
 
 abbrev pub label-fits : Option (List ℕ) → Bool
 label-fits None = true
-label-fits (Some l) = leb (length l) 64
+label-fits (Some l) = leb (length l) max-label
 
 -- The questions that size and render share, and what is asked next.
-abbrev pub shared-questions : Held → Sheets → modes.Conflict → Labels → Option Refusal → Option Refusal
+abbrev pub shared-questions : Held → Sheets → modes.Conflict → Labels → Option RenderRefusal → Option RenderRefusal
 shared-questions t s m l next =
-    ask (eqb (length (s .ancestor)) (t .ancestor)) 14 0
-    (ask (eqb (length (s .current)) (t .current)) 14 1
-    (ask (eqb (length (s .other)) (t .other)) 14 2
-    (ask (size-fits m) 15 0
-    (ask (label-fits (l .ancestor)) 16 0
-    (ask (label-fits (l .current)) 16 1
-    (ask (label-fits (l .other)) 16 2 next))))))
+    ask (eqb (length (s .ancestor)) (t .ancestor-lines)) (CountsDiffer Ancestor)
+    (ask (eqb (length (s .current)) (t .current-lines)) (CountsDiffer Current)
+    (ask (eqb (length (s .other)) (t .other-lines)) (CountsDiffer Other)
+    (ask (size-fits m) MarkerSize
+    (ask (label-fits (l .ancestor)) (LabelTooLong Ancestor)
+    (ask (label-fits (l .current)) (LabelTooLong Current)
+    (ask (label-fits (l .other)) (LabelTooLong Other) next))))))
 
 abbrev pub needed : Held → Sheets → modes.Conflict → Labels → ℕ
-needed t s m l = total (rendering m s l (t .cs) (t .os))
+needed t s m l = total (rendering m s l (t .current) (t .other))
 
-abbrev pub too-long : ℕ → ℕ → Refusal
-too-long n c = record { number = 17; place = 0; needed = n; capacity = c }
+-- Whether a sink of capacity c has room for n bytes.
+abbrev pub room : ℕ → ℕ → Option RenderRefusal
+room n c = ask (leb n c) (SinkTooSmall n c) None
 
-abbrev pub room : ℕ → ℕ → Option Refusal
-room n c = cond (leb n c) None (Some (too-long n c))
-
-abbrev pub size-questions : Held → Sheets → modes.Conflict → Labels → Option Refusal
+abbrev pub size-questions : Held → Sheets → modes.Conflict → Labels → Option RenderRefusal
 size-questions t s m l = shared-questions t s m l None
 
-abbrev pub render-questions : Held → Sheets → Asked → Option Refusal
+abbrev pub render-questions : Held → Sheets → Asked → Option RenderRefusal
 render-questions t s a = shared-questions t s (a .mode) (a .labels) (room (needed t s (a .mode) (a .labels)) (a .capacity))
 
-abbrev pub size-answer : Held → Sheets → modes.Conflict → Labels → Answer
-size-answer t s m l = answered (size-questions t s m l) (counted (needed t s m l))
+-- Size answers the rendering's length, render its verdict.
+abbrev pub size-answer : Held → Sheets → modes.Conflict → Labels → Result ℕ RenderRefusal
+size-answer t s m l = answered (size-questions t s m l) (needed t s m l)
 
-abbrev pub render-answer : Held → Sheets → Asked → Answer
-render-answer t s a = answered (render-questions t s a) (judged (verdict (a .mode) s (t .cs) (t .os)))
+abbrev pub render-answer : Held → Sheets → Asked → Result Resolution RenderRefusal
+render-answer t s a = answered (render-questions t s a) (verdict (a .mode) s (t .current) (t .other))
 
 -- A sink: the length announced, the bytes taken, and a value that a rule makes of the pieces.
 pub record Sink (V : Type 0) : Type 0 where
@@ -73,60 +78,6 @@ pub record Sink (V : Type 0) : Type 0 where
 abbrev pub filled-sink : {V : Type 0} → (V → Chunk → V) → V → List Chunk → Sink V
 filled-sink rule fresh cs = record { announced = total cs; taken = total cs; value = made rule fresh cs }
 
-abbrev pub sink-by : {V : Type 0} → Option Refusal → Sink V → Sink V → Sink V
-sink-by None k′ k = k′
-sink-by (Some r) k′ k = k
-
 -- What a render leaves in a sink: all pieces, from the fresh value on; refused, what was there.
 abbrev pub render-sink : {V : Type 0} → (V → Chunk → V) → V → Held → Sheets → Asked → Sink V → Sink V
-render-sink rule fresh t s a k = sink-by (render-questions t s a) (filled-sink rule fresh (rendering (a .mode) s (a .labels) (t .cs) (t .os))) k
-
--- The questions in words.
-pub record Counted (s : Sheets) (t : Held) : Type 0 where
-  pub ancestor : length (s .ancestor) ≡ t .ancestor
-  pub current : length (s .current) ≡ t .current
-  pub other : length (s .other) ≡ t .other
-
-abbrev pub Size-fits : modes.Conflict → Type 0
-Size-fits (Keep style n) = (1 ≤ n) × (n ≤ 255)
-Size-fits ResolveWithOurs = Unit {0}
-Size-fits ResolveWithTheirs = Unit {0}
-Size-fits ResolveWithUnion = Unit {0}
-
-abbrev pub Label-fits : Option (List ℕ) → Type 0
-Label-fits None = Unit {0}
-Label-fits (Some l) = length l ≤ 64
-
-abbrev pub Shared-told : Held → Sheets → modes.Conflict → Labels → Answer → Type 0 → Type 0
-Shared-told t s m l x Next =
-    Question (length (s .ancestor) ≡ t .ancestor) 14 0 x
-    (Question (length (s .current) ≡ t .current) 14 1 x
-    (Question (length (s .other) ≡ t .other) 14 2 x
-    (Question (Size-fits m) 15 0 x
-    (Question (Label-fits (l .ancestor)) 16 0 x
-    (Question (Label-fits (l .current)) 16 1 x
-    (Question (Label-fits (l .other)) 16 2 x Next))))))
-
-abbrev pub Size-told : Held → Sheets → modes.Conflict → Labels → Type 0
-Size-told t s m l = Shared-told t s m l (size-answer t s m l) (size-answer t s m l ≡ counted (needed t s m l))
-
--- Where all of the shared ones hold: the rendering is too long for the sink, and is refused with both lengths, or it fits and is judged.
-abbrev pub Render-told : Held → Sheets → Asked → Type 0
-Render-told t s a =
-    let x = render-answer t s a in
-    let n = needed t s (a .mode) (a .labels) in
-    Shared-told t s (a .mode) (a .labels) x
-    (((n ≤ a .capacity → ⊥) × (x ≡ refused (too-long n (a .capacity)))) ⊎ ((n ≤ a .capacity) × (x ≡ judged (verdict (a .mode) s (t .cs) (t .os)))))
-
--- The law of size and render, for sinks whose values are of V, made by a rule from a fresh one.
-pub record Render-rules (V : Type 0) (rule : V → Chunk → V) (fresh : V) (t : Held) (s : Sheets) : Type 0 where
-  pub size-told : (m : modes.Conflict) (l : Labels) → Size-told t s m l
-  pub render-told : (a : Asked) → Render-told t s a
-  -- accepted, the sink has been given the rendering's pieces in order
-  pub given : (a : Asked) (k : Sink V) (v : Resolution) → render-answer t s a ≡ judged v → render-sink rule fresh t s a k ≡ filled-sink rule fresh (rendering (a .mode) s (a .labels) (t .cs) (t .os))
-  -- refused, it is as it was
-  pub left : (a : Asked) (k : Sink V) (r : Refusal) → render-answer t s a ≡ refused r → render-sink rule fresh t s a k ≡ k
-  -- lengths are those of the bytes, and a sink's value is made by its rule, one piece at a time from the fresh value on
-  pub measured : (cs : List Chunk) → total cs ≡ length (all-bytes cs)
-  pub made-none : made rule fresh [] ≡ fresh
-  pub made-more : (cs : List Chunk) (c : Chunk) → made rule fresh (cs ++ (c ∷ [])) ≡ rule (made rule fresh cs) c
+render-sink rule fresh t s a k = changed (render-questions t s a) (filled-sink rule fresh (rendering (a .mode) s (a .labels) (t .current) (t .other))) k

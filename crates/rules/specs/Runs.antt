@@ -1,19 +1,12 @@
--- Runs: what two handhelds agree on after any two runs of calls.
-use Prim.Native.Nat.{ℕ, _≤_}
-use mathlib.Core.Path.{_≡_}
-use mathlib.Core.List.{List, [], _∷_, _++_, map}
+-- Runs of calls: opens, enters, withdrawals and renders in any order, accepted or refused.
+use Prim.Native.Nat.{ℕ}
+use mathlib.Core.List.{List, [], _∷_}
 use lib.ListN.{length}
-use Rattle.std.specs.shelf.Lists.{All}
-use Rattle.rules.specs.declared.hunk.Side.{Side}
 use Rattle.rules.specs.declared.hunk.Hunk.{Hunk}
-use Rattle.rules.specs.declared.mode.Resolution.{Resolution}
+use Rattle.rules.specs.declared.hunk.Side.{Side}
 use Rattle.rules.specs.Hunks.{Sheets}
-use Rattle.rules.specs.Pieces.{Chunk}
-use Rattle.rules.specs.Agreement.{facing-side, exchanged-hunk, exchanged-sheets, Alike}
-use Rattle.rules.specs.Laws.{Laws}
-use Rattle.rules.specs.Lengths.{Length-law}
-use Rattle.rules.specs.Tables.{Held, new-table, Answer, judged, open-after, enter-after, enter-answer, withdraw-after, withdraw-answer, Table-rules, Table-keeps}
-use Rattle.rules.specs.Renders.{Asked, render-answer, Counted, Render-rules}
+use Rattle.rules.specs.Tables.{Held, new-table, open-after, enter-after, withdraw-after}
+use Rattle.rules.specs.Renders.{Asked}
 
 -- A call. A render is of any three sheets, and leaves the table as it is.
 pub data Call : Type 0 where
@@ -36,10 +29,7 @@ after-calls t (x ∷ xs) = after-calls (after-call t x) xs
 abbrev pub after-run : List Call → Held
 after-run = after-calls new-table
 
-abbrev pub Tables-keep : Type 0
-Tables-keep = (xs : List Call) → Table-keeps (after-run xs)
-
--- A handheld's run: any calls, then an opening with the counts of its sheets, and since then no opening.
+-- A unit's run: any calls, then an opening with the counts of its sheets, and since then no opening.
 abbrev pub opening : Sheets → Call
 opening s = open-with (length (s .ancestor)) (length (s .current)) (length (s .other))
 
@@ -48,78 +38,3 @@ No-opening (open-with a c o) = ⊥
 No-opening (enter h) = Unit {0}
 No-opening (withdraw side) = Unit {0}
 No-opening (render s a) = Unit {0}
-
-pub record Few-lines (s : Sheets) : Type 0 where
-  pub ancestor : length (s .ancestor) ≤ 4096
-  pub current : length (s .current) ≤ 4096
-  pub other : length (s .other) ≤ 4096
-
--- The second table holds the first one's hunks, sides exchanged.
-abbrev pub Holds-exchanged : Held → Held → Type 0
-Holds-exchanged t t′ = (t′ .cs ≡ map exchanged-hunk (t .os)) × (t′ .os ≡ map exchanged-hunk (t .cs))
-
--- The same calls, sides exchanged. Given them, the second handheld answers each enter and withdrawal as the first, and holds the same hunks, sides exchanged.
-abbrev pub exchanged-call : Call → Call
-exchanged-call (open-with a c o) = open-with a o c
-exchanged-call (enter h) = enter (exchanged-hunk h)
-exchanged-call (withdraw side) = withdraw (facing-side side)
-exchanged-call (render s a) = render (exchanged-sheets s) a
-
-abbrev pub answers : Held → List Call → List Answer
-answers t [] = []
-answers t (open-with a c o ∷ xs) = answers (open-after t a c o) xs
-answers t (enter h ∷ xs) = enter-answer t h ∷ answers (enter-after t h) xs
-answers t (withdraw side ∷ xs) = withdraw-answer t side ∷ answers (withdraw-after t side) xs
-answers t (render s a ∷ xs) = answers t xs
-
-pub record Same-calls (xs : List Call) : Type 0 where
-  pub same-answers : answers new-table (map exchanged-call xs) ≡ answers new-table xs
-  pub same-hunks : Holds-exchanged (after-run xs) (after-run (map exchanged-call xs))
-
-abbrev pub Same-calls-same-hunks : Type 0
-Same-calls-same-hunks = (xs : List Call) → Same-calls xs
-
--- A run begins with a new table, and each further call leaves what its own rule says.
-pub record Call-laws (xs : List Call) : Type 0 where
-  pub begun : after-run [] ≡ new-table
-  pub opened-next : (a c o : ℕ) → after-run (xs ++ (open-with a c o ∷ [])) ≡ open-after (after-run xs) a c o
-  pub entered-next : (h : Hunk) → after-run (xs ++ (enter h ∷ [])) ≡ enter-after (after-run xs) h
-  pub withdrawn-next : (side : Side) → after-run (xs ++ (withdraw side ∷ [])) ≡ withdraw-after (after-run xs) side
-  pub rendered-next : (s : Sheets) (a : Asked) → after-run (xs ++ (render s a ∷ [])) ≡ after-run xs
-
--- Two handhelds, the second with the sheets of current and other exchanged.
-pub record Agreement-after (s : Sheets) (t t′ : Held) : Type 0 where
-  -- what holds of each one's renderings
-  pub first : Laws s (t .cs) (t .os)
-  pub second : Laws (exchanged-sheets s) (t′ .cs) (t′ .os)
-  pub first-short : Length-law s (t .cs) (t .os)
-  pub second-short : Length-law (exchanged-sheets s) (t′ .cs) (t′ .os)
-  -- whenever they hold the same hunks, sides exchanged, they show the same
-  pub alike : Holds-exchanged t t′ → Alike s (t .cs) (t .os) (t′ .cs) (t′ .os)
-
--- Over runs from a new table, of any calls, accepted or refused; a front of a run is a run, so all this holds after each call. The two handhelds
--- have sinks of their own: values of V and of V′, each with a rule for one more piece and a fresh value.
-pub record Agreement-over-runs (V : Type 0) (rule : V → Chunk → V) (fresh : V) (V′ : Type 0) (rule′ : V′ → Chunk → V′) (fresh′ : V′) : Type 0 where
-  -- the table: what it keeps, and what its calls answer and leave
-  pub keeps : (xs : List Call) → Table-keeps (after-run xs)
-  pub rules : (xs : List Call) → Table-rules (after-run xs)
-  pub calls : (xs : List Call) → Call-laws xs
-  pub same-calls : (xs : List Call) → Same-calls xs
-  -- size and render, of any three sheets
-  pub renders : (xs : List Call) (s : Sheets) → Render-rules V rule fresh (after-run xs) s
-  pub renders′ : (xs : List Call) (s : Sheets) → Render-rules V′ rule′ fresh′ (after-run xs) s
-  -- a table has the counts of the sheets whenever it was opened with them and not again since, and whenever a render of them is accepted
-  pub since-opening : (s : Sheets) (xs ys : List Call) → Few-lines s → All No-opening ys → Counted s (after-run (xs ++ (opening s ∷ ys)))
-  pub when-accepted : (s : Sheets) (xs : List Call) (a : Asked) (v : Resolution) → render-answer (after-run xs) s a ≡ judged v → Counted s (after-run xs)
-  -- two handhelds whose tables have the counts of their sheets, each after a run of its own
-  pub agree : (s : Sheets) (xs ys : List Call) → Counted s (after-run xs) → Counted (exchanged-sheets s) (after-run ys) → Agreement-after s (after-run xs) (after-run ys)
-
--- At two kinds of sink: one that keeps the pieces, and one that keeps their bytes.
-abbrev pub one-more : List Chunk → Chunk → List Chunk
-one-more cs c = cs ++ (c ∷ [])
-
-abbrev pub more-bytes : List ℕ → Chunk → List ℕ
-more-bytes bs c = bs ++ c .bytes
-
-abbrev pub Handhelds-agree-over-runs : Type 0
-Handhelds-agree-over-runs = Agreement-over-runs (List Chunk) one-more [] (List ℕ) more-bytes []

@@ -1,5 +1,6 @@
 pub mod ending;
 pub mod hunk;
+pub mod labels;
 pub mod limits;
 pub mod mode;
 pub mod refusal;
@@ -10,12 +11,12 @@ use crate::sink::BytesTake;
 use crate::sink::Pieces;
 use crate::sink::PiecesTake;
 use crate::sink::Takes;
-ghost use Rattle.rules.specs.Agreement.{Handhelds-agree};
+ghost use Rattle.rules.specs.Agreement.{Units-agree};
 ghost use Rattle.rules.specs.Cases.{Cases};
-ghost use Rattle.rules.specs.Grouping.{Exchange-keeps-groups};
-ghost use Rattle.rules.specs.Outline.{Outlined};
-ghost use Rattle.rules.specs.Runs.{Tables-keep, Same-calls-same-hunks, Agreement-over-runs, Handhelds-agree-over-runs};
-ghost use Rattle.rules.specs.Tables.{Tables-follow-rules};
+ghost use Rattle.rules.specs.GroupLaws.{Exchange-keeps-groups};
+ghost use Rattle.rules.specs.OutlineLaws.{Outlined};
+ghost use Rattle.rules.specs.RunLaws.{Tables-keep, Same-calls-same-hunks, Agreement-over-runs, Units-agree-over-runs};
+ghost use Rattle.rules.specs.TableLaws.{Tables-follow-rules};
 
 /// The worked cases come out as stated.
 pub fn cases_stand() -> u8
@@ -38,9 +39,9 @@ pub fn exchange_keeps_groups() -> u8
     0
 }
 
-/// What two handhelds that hold the same hunks agree on.
-pub fn handhelds_agree() -> u8
-    ensures { λ _. ⌜ Handhelds-agree ⌝ }
+/// What two units that hold the same hunks agree on.
+pub fn units_agree() -> u8
+    ensures { λ _. ⌜ Units-agree ⌝ }
 {
     0
 }
@@ -59,18 +60,18 @@ pub fn tables_keep() -> u8
     0
 }
 
-/// What two handhelds agree on after every two runs of calls, whatever kinds of sinks they render into.
-pub fn handhelds_agree_over_runs<K: Takes, L: Takes>() -> u8
+/// What two units agree on after every two runs of calls, whatever kinds of sinks they render into.
+pub fn units_agree_over_runs<K: Takes, L: Takes>() -> u8
     ensures { λ _. ⌜ Agreement-over-runs (K·Takes .value) (K·Takes .rule) (K·Takes .fresh) (L·Takes .value) (L·Takes .rule) (L·Takes .fresh) ⌝ }
 {
     0
 }
 
 /// The same at two kinds of sink, one that keeps the pieces and one that keeps their bytes.
-pub fn handhelds_agree_in_bytes() -> u8
-    ensures { λ _. ⌜ Handhelds-agree-over-runs ⌝ }
+pub fn units_agree_in_bytes() -> u8
+    ensures { λ _. ⌜ Units-agree-over-runs ⌝ }
 {
-    handhelds_agree_over_runs::<Pieces, Bytes>()
+    units_agree_over_runs::<Pieces, Bytes>()
 }
 
 /// The same calls, sides exchanged, get the same answers and leave the same hunks, sides exchanged.

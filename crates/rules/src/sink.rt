@@ -1,7 +1,7 @@
 ghost use Prim.Native.Nat.{ℕ};
 ghost use mathlib.Core.List.{List, []};
 ghost use Rattle.rules.specs.Pieces.{Chunk};
-ghost use Rattle.rules.specs.Runs.{one-more, more-bytes};
+ghost use Rattle.rules.specs.Pieces.{one-more, more-bytes};
 
 /// What a kind of sink makes of the pieces that it is given: a value, with a rule for one more piece, from a fresh one on.
 pub trait Takes {
