@@ -17,7 +17,7 @@ pub struct Wanted {
 const ENDINGS: [&[u8]; 3] = [b"\n", b"\r\n", b""];
 
 pub fn cases(wanted: Wanted) -> impl Iterator<Item = Case> {
-    plans(wanted).flat_map(move |plan| {
+    let cases = plans(wanted).flat_map(move |plan| {
         words(plan.different).into_iter().flat_map(move |word| {
             let ways = if wanted.endings {
                 ENDINGS.len().pow(word.len() as u32)
@@ -27,6 +27,10 @@ pub fn cases(wanted: Wanted) -> impl Iterator<Item = Case> {
             let plan = plan.clone();
             (0..ways).filter_map(move |way| plan.case(&lines(&word, way)))
         })
+    });
+    cases.zip(1..).map(|(case, n): (Case, u64)| Case {
+        name: format!("small-{n}"),
+        ..case
     })
 }
 

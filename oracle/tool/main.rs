@@ -13,7 +13,7 @@ use std::io::{self, Write};
 const USAGE: &str = "oracle-tool random SEED COUNT          cases at random
 oracle-tool every LINES [endings] [fitting]   every case of so many lines in all that has a group
 oracle-tool differ FILE FILE           where two files of answers differ, the smallest case of each mode and kind
-oracle-tool table FILE PER_FILE DIR    answers as equations for the prover
+oracle-tool table FILE NAMES PER_FILE DIR   answers as equations for the prover
 oracle-tool mend ROOT FILE..           replace texts below ROOT";
 
 fn main() -> Result<(), String> {
@@ -27,7 +27,7 @@ fn main() -> Result<(), String> {
             fitting: how.contains(&"fitting"),
         })),
         ["differ", left, right] => differ::report(left, right),
-        ["table", answers, per_file, folder] => table::write(answers, number(per_file)? as usize, folder),
+        ["table", answers, names, per_file, folder] => table::write(answers, names, number(per_file)? as usize, folder),
         ["mend", root, mends @ ..] => mends.iter().try_for_each(|file| mend::apply(root, file)),
         _ => Err(USAGE.to_owned()),
     }

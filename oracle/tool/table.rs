@@ -8,30 +8,17 @@ use std::{
 
 use crate::cases::{self, Case, GivenHunk, GivenLabels, Mode, lines};
 
-/// Names of the definitions that the equations use.
-const HEADER: &str = "use Prim.Native.Nat.{ℕ}
-use mathlib.Core.Path.{_≡_, refl}
-use mathlib.Core.List.{List, [], _∷_}
-use Rattle.std.specs.declared.option.Option.the-variants.{None, Some}
-use Rattle.rules.specs.declared.hunk.Side.the-variants.{Current, Other}
-use Rattle.rules.specs.declared.hunk.Hunk.{Hunk}
-use Rattle.rules.specs.declared.mode.ConflictStyle.the-variants.{Merge, Diff3, ZealousDiff3}
-use Rattle.rules.specs.declared.mode.Conflict.the-variants.{Keep, ResolveWithOurs, ResolveWithTheirs, ResolveWithUnion}
-use Rattle.rules.specs.declared.mode.Resolution.the-variants.{Complete, CompleteWithAutoResolvedConflict, Conflict}
-use Rattle.rules.specs.Pieces.{all-bytes}
-use Rattle.rules.specs.Hunks.{Sheets}
-use Rattle.rules.specs.Rendering.{rendering, verdict, Labels}
-";
-
-/// Writes the answers in the file `answers` as modules `Compared1`, `Compared2`, .. of `per_file` cases each.
-pub fn write(answers: &str, per_file: usize, folder: &str) -> Result<(), String> {
+/// Writes the answers in the file `answers` as modules `Compared1`, `Compared2`, .. of `per_file` cases each. Each module begins
+/// with the text of the file `names`, which brings in the definitions.
+pub fn write(answers: &str, names: &str, per_file: usize, folder: &str) -> Result<(), String> {
+    let names = fs::read_to_string(names).map_err(|err| format!("{names}: {err}"))?;
     let file = fs::File::open(answers).map_err(|err| format!("{answers}: {err}"))?;
     let lines = BufReader::new(file)
         .lines()
         .map(|line| line.expect("a file of cases is text"));
     let cases: Vec<Case> = cases::reader(lines).collect::<Result<_, _>>()?;
     for (n, chunk) in cases.chunks(per_file).enumerate() {
-        let mut text = HEADER.to_owned();
+        let mut text = names.clone();
         for case in chunk {
             write_case(&mut text, case);
         }
