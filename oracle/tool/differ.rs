@@ -25,8 +25,13 @@ struct Found {
 pub fn report(left: &str, right: &str) -> Result<(), String> {
     let mut found: BTreeMap<(Mode, Differs), Found> = BTreeMap::new();
     let (mut all, mut differing) = (0, 0);
-    for (l, r) in read(left)?.zip(read(right)?) {
-        let (l, r) = (l?, r?);
+    let (mut lefts, mut rights) = (read(left)?, read(right)?);
+    loop {
+        let (l, r) = match (lefts.next(), rights.next()) {
+            (Some(l), Some(r)) => (l?, r?),
+            (None, None) => break,
+            _ => return Err("one file has more cases than the other".to_owned()),
+        };
         if l.name != r.name {
             return Err(format!("not the same cases: {} and {}", l.name, r.name));
         }
