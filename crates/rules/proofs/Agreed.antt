@@ -13,13 +13,14 @@ use Rattle.rules.specs.Agreement.{Own-laws, Units-agree, Laws}
 use Rattle.rules.proofs.Chains.{groups-are-chains}
 use Rattle.rules.proofs.HunkWords.{hunk-laws}
 use Rattle.rules.proofs.Marked.{marker-laws}
-use Rattle.rules.proofs.Mirror.{same-outline, same-verdict}
+use Rattle.rules.proofs.Mirror.{same-outline, same-verdict, same-judged}
 use Rattle.rules.proofs.Outlines.{outlined}
 use Rattle.rules.proofs.Ranges.{range-laws}
 use Rattle.rules.proofs.Shown.{ending-laws}
 use Rattle.rules.proofs.SidePart.{ours-part, theirs-part}
 use Rattle.rules.proofs.Spelled.{ours-spelled, theirs-spelled, every-spelled, some-block}
 use Rattle.rules.proofs.Texts.{ours-put-in, theirs-put-in}
+use Rattle.rules.proofs.UnionForm.{union-law}
 use Rattle.rules.proofs.Unions.{ours-written, theirs-written, side-laws}
 use Rattle.rules.proofs.Verdicts.{keep-verdict, ours-verdict, theirs-verdict}
 use Rattle.rules.proofs.Walks.{walked, touch-law}
@@ -59,8 +60,9 @@ laws s cs os p = record {
   ranges = range-laws s cs os p;
   sides = side-laws s cs os p;
   markers = marker-laws s cs os p;
+  union = union-law s cs os p;
   endings = ending-laws s;
 }
 
 pub units-agree : Units-agree
-units-agree s cs os p = record { own = own-laws s cs os p; alike = record { same-outline = same-outline s cs os p; same-verdict = same-verdict s cs os p } }
+units-agree s cs os p = record { own = own-laws s cs os p; alike = record { same-outline = same-outline s cs os p; same-verdict = same-verdict s cs os p; same-judged = same-judged s cs os p } }

@@ -16,7 +16,8 @@ use Rattle.rules.specs.Hunks.{opposite, touches, touches-any}
 use Rattle.rules.specs.Walk.{walk, currents, others, is-current, is-other}
 use Rattle.rules.specs.Groups.{Cluster, clusters, clusters-from, members, joined, is-group, last-end}
 use Rattle.rules.specs.Exchange.{exchanged-hunk, facing-side}
-use Rattle.rules.specs.GroupLaws.{Pairwise, Exchanged, Exchange-keeps-groups}
+use Rattle.rules.specs.WalkLaws.{Pairwise}
+use Rattle.rules.specs.GroupLaws.{Exchanged, Exchange-keeps-groups}
 use Rattle.rules.proofs.Chains.{alone, behind-alone, behind-joined}
 use Rattle.rules.proofs.Picked.{any-others, any-currents}
 use Rattle.rules.proofs.Woven.{Sided, Woven, Behind, next, behind-next, behind-self, untouched, touches-sym, any-none, Run, runs, walk-woven}

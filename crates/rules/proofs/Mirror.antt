@@ -9,9 +9,10 @@ use Rattle.std.proofs.shelf.Tests.{cond-both}
 use Rattle.rules.specs.declared.hunk.Hunk.{Hunk}
 use Rattle.rules.specs.declared.hunk.Side.{Side}
 use Rattle.rules.specs.declared.hunk.Side.the-variants.{Current, Other, Ancestor}
-use Rattle.rules.specs.declared.mode.Conflict.the-variants.{Keep}
+use Rattle.rules.specs.declared.mode.Conflict as modes
+use Rattle.rules.specs.declared.mode.Conflict.the-variants.{Keep, ResolveWithOurs, ResolveWithTheirs, ResolveWithUnion}
 use Rattle.rules.specs.declared.mode.ConflictStyle.{ConflictStyle}
-use Rattle.rules.specs.declared.mode.Resolution.the-variants.{Complete, Conflict}
+use Rattle.rules.specs.declared.mode.Resolution.the-variants.{Complete, CompleteWithAutoResolvedConflict, Conflict}
 use Rattle.rules.specs.Lines.{Line, between, same-lines}
 use Rattle.rules.specs.SharedLines.{shared-start, shared-end, middle}
 use Rattle.rules.specs.Hunks.{Sheets, lines-by, hunk-lines, side-lines}
@@ -24,14 +25,16 @@ use Rattle.rules.specs.Rendering.{rendering}
 use Rattle.rules.specs.Verdict.{verdict}
 use Rattle.rules.specs.Outline.{Item, line, block, outline}
 use Rattle.rules.specs.GroupOutline.{drawn-in, block-items, base-part, group-items, cluster-items, items}
-use Rattle.rules.specs.Exchange.{exchanged-item, facing-side, exchanged-hunk, exchanged-sheets}
+use Rattle.rules.specs.Exchange.{exchanged-item, facing-side, exchanged-hunk, exchanged-sheets, exchanged-mode}
 use Rattle.rules.specs.Order.{In-order, Kept}
-use Rattle.rules.specs.GroupLaws.{Pairwise, Exchanged}
+use Rattle.rules.specs.WalkLaws.{Pairwise}
+use Rattle.rules.specs.GroupLaws.{Exchanged}
 use Rattle.rules.specs.VerdictLaws.{some-group-differs}
 use Rattle.rules.proofs.Exchange.{exchange-keeps-groups}
 use Rattle.rules.proofs.Outlines.{outlined}
 use Rattle.rules.proofs.Shared.{same-line-sym, same-lines-true, start-sym, end-sym}
-use Rattle.rules.proofs.Verdicts.{keep-verdict}
+use Rattle.rules.proofs.Verdicts.{keep-verdict, ours-verdict, theirs-verdict}
+use Rattle.rules.proofs.Words.{union-verdict}
 
 -- the hunks are kept
 side-turned : (side : Side) (na ns b a : ℕ) (hs : List Hunk) → In-order side na ns b a hs → In-order (facing-side side) na ns b a (map exchanged-hunk hs)
@@ -160,3 +163,12 @@ module _ (s : Sheets) (cs os : List Hunk) (p : Kept s cs os) where
       keep-verdict (exchanged-sheets s) (map exchanged-hunk os) (map exchanged-hunk cs) (kept-turned s cs os p) st n′
       ∙ ap (λ (b : Bool). cond b Conflict Complete) (some-turned s (clusters (walk cs os)) (clusters (walk (map exchanged-hunk os) (map exchanged-hunk cs))) (exchange-keeps-groups s cs os p))
       ∙ sym (keep-verdict s cs os p st n)
+
+  some-same : some-group-differs (exchanged-sheets s) (clusters (walk (map exchanged-hunk os) (map exchanged-hunk cs))) ≡ some-group-differs s (clusters (walk cs os))
+  some-same = some-turned s (clusters (walk cs os)) (clusters (walk (map exchanged-hunk os) (map exchanged-hunk cs))) (exchange-keeps-groups s cs os p)
+
+  pub same-judged : (m : modes.Conflict) → verdict (exchanged-mode m) (exchanged-sheets s) (map exchanged-hunk os) (map exchanged-hunk cs) ≡ verdict m s cs os
+  same-judged (Keep st n) = same-verdict st n n
+  same-judged ResolveWithOurs = theirs-verdict (exchanged-sheets s) (map exchanged-hunk os) (map exchanged-hunk cs) ∙ ap (λ (b : Bool). cond b CompleteWithAutoResolvedConflict Complete) some-same ∙ sym (ours-verdict s cs os)
+  same-judged ResolveWithTheirs = ours-verdict (exchanged-sheets s) (map exchanged-hunk os) (map exchanged-hunk cs) ∙ ap (λ (b : Bool). cond b CompleteWithAutoResolvedConflict Complete) some-same ∙ sym (theirs-verdict s cs os)
+  same-judged ResolveWithUnion = union-verdict (exchanged-sheets s) (map exchanged-hunk os) (map exchanged-hunk cs) (kept-turned s cs os p) ∙ ap (λ (b : Bool). cond b CompleteWithAutoResolvedConflict Complete) some-same ∙ sym (union-verdict s cs os p)

@@ -110,7 +110,7 @@ module _ {A : Type 0} (t : Held) (s : Sheets) (m : modes.Conflict) (l : Labels) 
       (told x (LabelTooLong Current) (label-fits (l .current)) (Label-fits (l .current)) s₅ S₅ (label-says (l .current)) (says-label (l .current))
       (told x (LabelTooLong Other) (label-fits (l .other)) (Label-fits (l .other)) next Next (label-says (l .other)) (says-label (l .other)) k))))))
 
-counted-then : (t : Held) (s : Sheets) (m : modes.Conflict) (l : Labels) (next : Option RenderRefusal) → shared-questions t s m l next ≡ None → Counted s t
+pub counted-then : (t : Held) (s : Sheets) (m : modes.Conflict) (l : Labels) (next : Option RenderRefusal) → shared-questions t s m l next ≡ None → Counted s t
 counted-then t s m l next e =
     let q₀ = yes-then (eqb (length (s .ancestor)) (t .ancestor-lines)) _ _ e in
     let q₁ = yes-then (eqb (length (s .current)) (t .current-lines)) _ _ (q₀ .1) in

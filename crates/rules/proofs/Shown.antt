@@ -1,5 +1,4 @@
 -- The rules of line endings.
-use Rattle.rules.specs.Filling.{stretch}
 use Prim.Native.Nat.{ℕ, _-_, _≤_, _<_}
 use native.Mathlib.Omega.{arith}
 use mathlib.Core.Path.{_≡_, refl, sym, ap, _∙_}
@@ -17,6 +16,7 @@ use Rattle.rules.specs.declared.hunk.Hunk.{Hunk}
 use Rattle.rules.specs.declared.hunk.Span.{Span}
 use Rattle.rules.specs.Lines.{Line}
 use Rattle.rules.specs.Hunks.{Sheets}
+use Rattle.rules.specs.Filling.{stretch}
 use Rattle.rules.specs.Endings.{by-second-last, ends-in-newline, ending-before, no-lines, ending-back, ending-of}
 use Rattle.rules.specs.EndingLaws.{Ending-laws}
 

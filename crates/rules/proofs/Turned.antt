@@ -1,11 +1,10 @@
 -- The same calls, sides exchanged, leave the same hunks, sides exchanged.
-use Prim.Native.Nat.{ℕ, _+_, _-_}
+use Prim.Native.Nat.{ℕ, _-_}
 use mathlib.Core.Path.{_≡_, refl, sym, ap, ap₂, _∙_}
 use mathlib.Core.Bool.{Bool, true, false}
 use mathlib.Core.List.{List, [], _∷_, _++_, map, map-append}
 use Rattle.std.specs.declared.option.Option.{Option}
 use Rattle.std.specs.declared.option.Option.the-variants.{None, Some}
-use Rattle.std.specs.declared.result.Result.{Result}
 use lib.ListN.{length, take, length-map}
 use lib.Dec.{leb}
 use Rattle.std.proofs.shelf.Lists.{take-map}
@@ -15,13 +14,12 @@ use Rattle.rules.specs.declared.hunk.Side.the-variants.{Current, Other, Ancest
 use Rattle.rules.specs.declared.refusal.TableRefusal.{TableRefusal}
 use Rattle.rules.specs.declared.refusal.TableRefusal.the-variants.{CountTooLarge}
 use Rattle.rules.specs.Limits.{max-lines}
-use Rattle.rules.specs.Questions.{ask, answered, changed}
-use Rattle.rules.specs.Tables.{Held, opened, new-table, held-of, holding, follows, last-from, last-of, without-last, open-after, enter-questions, enter-after, withdraw-questions, withdraw-after}
+use Rattle.rules.specs.Questions.{ask, changed}
+use Rattle.rules.specs.Tables.{Held, opened, held-of, holding, follows, last-from, last-of, without-last, open-after, enter-questions, enter-after, withdraw-questions, withdraw-after}
 use Rattle.rules.specs.Runs.{Call, open-with, enter, withdraw, render, after-call, after-calls}
 use Rattle.rules.specs.Exchange.{facing-side, exchanged-hunk, exchanged-call}
-use Rattle.rules.specs.RunLaws.{answers, Same-calls-same-hunks}
 
-abbrev turned : Held → Held
+abbrev pub turned : Held → Held
 turned t = record { ancestor-lines = t .ancestor-lines; current-lines = t .other-lines; other-lines = t .current-lines; current = map exchanged-hunk (t .other); other = map exchanged-hunk (t .current) }
 
 abbrev exchanged-last : Option Hunk → Option Hunk
@@ -36,12 +34,12 @@ last-turned g (x ∷ xs) h = last-turned (Some x) xs h
 behind-turned : (hs : List Hunk) (h : Hunk) → follows (last-of (map exchanged-hunk hs)) (exchanged-hunk h) ≡ follows (last-of hs) h
 behind-turned hs h = last-turned None hs h
 
-enter-turned : (t : Held) (side : Side) (h : Hunk) → enter-questions (turned t) (facing-side side) (exchanged-hunk h) ≡ enter-questions t side h
+pub enter-turned : (t : Held) (side : Side) (h : Hunk) → enter-questions (turned t) (facing-side side) (exchanged-hunk h) ≡ enter-questions t side h
 enter-turned t Current h = rw (length-map (t .current) exchanged-hunk, behind-turned (t .current) h)
 enter-turned t Other h = rw (length-map (t .other) exchanged-hunk, behind-turned (t .other) h)
 enter-turned t Ancestor h = refl
 
-withdraw-turned : (t : Held) (side : Side) → withdraw-questions (turned t) (facing-side side) ≡ withdraw-questions t side
+pub withdraw-turned : (t : Held) (side : Side) → withdraw-questions (turned t) (facing-side side) ≡ withdraw-questions t side
 withdraw-turned t Current = rw (length-map (t .current) exchanged-hunk)
 withdraw-turned t Other = rw (length-map (t .other) exchanged-hunk)
 withdraw-turned t Ancestor = refl
@@ -51,7 +49,7 @@ held-turned t Current = refl
 held-turned t Other = refl
 held-turned t Ancestor = refl
 
-count-turned : (t : Held) (side : Side) → length (held-of (turned t) (facing-side side)) ≡ length (held-of t side)
+pub count-turned : (t : Held) (side : Side) → length (held-of (turned t) (facing-side side)) ≡ length (held-of t side)
 count-turned t side = ap length (held-turned t side) ∙ length-map (held-of t side) exchanged-hunk
 
 holding-turned : (t : Held) (side : Side) (hs : List Hunk) → holding (turned t) (facing-side side) (map exchanged-hunk hs) ≡ turned (holding t side hs)
@@ -98,28 +96,12 @@ opened-either false b c t x y z = refl
 open-turned : (t : Held) (a c o : ℕ) → open-after (turned t) a o c ≡ turned (open-after t a c o)
 open-turned t a c o = opened-either (leb a max-lines) (leb c max-lines) (leb o max-lines) t a c o
 
-call-turned : (t : Held) (x : Call) → after-call (turned t) (exchanged-call x) ≡ turned (after-call t x)
+pub call-turned : (t : Held) (x : Call) → after-call (turned t) (exchanged-call x) ≡ turned (after-call t x)
 call-turned t (open-with a c o) = open-turned t a c o
 call-turned t (enter h) = entered-turned t h
 call-turned t (withdraw side) = withdrawn-turned t side
 call-turned t (render s a) = refl
 
-calls-turned : (t : Held) (xs : List Call) → after-calls (turned t) (map exchanged-call xs) ≡ turned (after-calls t xs)
+pub calls-turned : (t : Held) (xs : List Call) → after-calls (turned t) (map exchanged-call xs) ≡ turned (after-calls t xs)
 calls-turned t [] = refl
 calls-turned t (x ∷ xs) = ap (λ (u : Held). after-calls u (map exchanged-call xs)) (call-turned t x) ∙ calls-turned (after-call t x) xs
-
-answers-turned : (t : Held) (xs : List Call) → answers (turned t) (map exchanged-call xs) ≡ answers t xs
-answers-turned t [] = refl
-answers-turned t (open-with a c o ∷ xs) = ap (λ (u : Held). answers u (map exchanged-call xs)) (open-turned t a c o) ∙ answers-turned (open-after t a c o) xs
-answers-turned t (enter h ∷ xs) = ap₂ (λ (a : Result ℕ TableRefusal) (as′ : List (Result ℕ TableRefusal)). a ∷ as′)
-    (ap₂ (λ (r : Option TableRefusal) (n : ℕ). answered r (n + 1)) (enter-turned t (h .side) h) (count-turned t (h .side)))
-    (ap (λ (u : Held). answers u (map exchanged-call xs)) (entered-turned t h) ∙ answers-turned (enter-after t h) xs)
-answers-turned t (withdraw side ∷ xs) = ap₂ (λ (a : Result ℕ TableRefusal) (as′ : List (Result ℕ TableRefusal)). a ∷ as′)
-    (ap₂ (λ (r : Option TableRefusal) (n : ℕ). answered r (n - 1)) (withdraw-turned t side) (count-turned t side))
-    (ap (λ (u : Held). answers u (map exchanged-call xs)) (withdrawn-turned t side) ∙ answers-turned (withdraw-after t side) xs)
-answers-turned t (render s a ∷ xs) = answers-turned t xs
-
-pub same-calls : Same-calls-same-hunks
-same-calls xs =
-    let e = calls-turned new-table xs in
-    record { same-answers = answers-turned new-table xs; same-hunks = (ap (λ (u : Held). u .current) e, ap (λ (u : Held). u .other) e) }

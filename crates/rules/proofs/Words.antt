@@ -1,5 +1,6 @@
 -- The verdicts in words: there is a group whose sides are not the same lines.
-use mathlib.Core.Path.{_≡_, refl, sym, ap, _∙_}
+use Rattle.std.specs.shelf.Lists.{All}
+use mathlib.Core.Path.{_≡_, refl, sym, ap, _∙_, subst}
 use mathlib.Core.Bool.{Bool, true, false, cond, _&&_}
 use mathlib.Core.List.{List, [], _∷_, List·Memᴰ, List·Memᴰ·head, List·Memᴰ·tail, List·Memᴰ·cases-cons, List·Memᴰ·not-nil}
 use mathlib.Core.Logic.{inl, inr, ⊎-elim}
@@ -14,12 +15,14 @@ use Rattle.rules.specs.Hunks.{Sheets}
 use Rattle.rules.specs.Walk.{walk}
 use Rattle.rules.specs.Groups.{Cluster, clusters, is-group}
 use Rattle.rules.specs.Filling.{sides-differ, ours-lines, theirs-lines}
+use Rattle.rules.specs.Sides.{contracted-sides}
 use Rattle.rules.specs.Verdict.{marks, verdict}
 use Rattle.rules.specs.Order.{Kept}
-use Rattle.rules.specs.VerdictLaws.{some-group-differs, Some-group-differs, Exactly-when, Verdict-laws}
+use Rattle.rules.specs.ContractionLaws.{Contraction-law}
+use Rattle.rules.specs.VerdictLaws.{some-group-differs, Some-group-differs, Exactly-when, Verdict-laws, Some-left-differs}
 use Rattle.rules.proofs.Fits.{Fit, kept-fit}
 use Rattle.rules.proofs.Shared.{same-lines-true, same-lines-refl}
-use Rattle.rules.proofs.Unions.{union-marks}
+use Rattle.rules.proofs.Unions.{union-marks, contraction-law}
 use Rattle.rules.proofs.Verdicts.{marked-is, keep-verdict, ours-verdict, theirs-verdict}
 
 same-from : (xs ys : List Line) → xs ≡ ys → same-lines xs ys ≡ true
@@ -65,6 +68,21 @@ union-verdict s cs os p =
     ap (λ (b : Bool). cond b CompleteWithAutoResolvedConflict Complete)
     (marked-is ResolveWithUnion s ks (all-weaker (Fit s) (λ (k : Cluster). marks ResolveWithUnion s k ≡ sides-differ s k) (union-marks s) ks (kept-fit s cs os p)))
 
+-- the sides of a group differ exactly when what is left of them does
+all-mem : {X : Type 0} (P : X → Type 0) (xs : List X) → All P xs → (x : X) → List·Memᴰ x xs → P x
+all-mem P [] a x m = absurd (List·Memᴰ·not-nil m)
+all-mem P (y ∷ ys) a x m = ⊎-elim (λ (e : x ≡ y). subst P (sym e) (a .0)) (λ (i : List·Memᴰ x ys). all-mem P ys (a .1) x i) (List·Memᴰ·cases-cons m)
+
+module _ (s : Sheets) (cs os : List Hunk) (p : Kept s cs os) where
+  law-of : (k : Cluster) → List·Memᴰ k (clusters (walk cs os)) → Contraction-law s k (contracted-sides s k)
+  law-of k m = contraction-law s k (all-mem (Fit s) (clusters (walk cs os)) (kept-fit s cs os p) k m)
+
+  left-told : Some-group-differs s (walk cs os) → Some-left-differs s (walk cs os)
+  left-told (k, d) = (k, record { there = d .there; group = d .group; unlike = λ e. d .unlike (law-of k (d .there) .then-equal e) })
+
+  told-left : Some-left-differs s (walk cs os) → Some-group-differs s (walk cs os)
+  told-left (k, d) = (k, record { there = d .there; group = d .group; unlike = λ e. let n = law-of k (d .there) .nothing-left e in d .unlike (n .0 ∙ sym (n .1)) })
+
 pub verdict-laws : (s : Sheets) (cs os : List Hunk) → Kept s cs os → Verdict-laws s cs os
 verdict-laws s cs os p =
     let hs = walk cs os in
@@ -75,6 +93,7 @@ verdict-laws s cs os p =
       ours = exactly P b CompleteWithAutoResolvedConflict _ (differ-told s hs) (told-differ s hs) (ours-verdict s cs os);
       theirs = exactly P b CompleteWithAutoResolvedConflict _ (differ-told s hs) (told-differ s hs) (theirs-verdict s cs os);
       union = exactly P b CompleteWithAutoResolvedConflict _ (differ-told s hs) (told-differ s hs) (union-verdict s cs os p);
+      union-left = exactly (Some-left-differs s hs) b CompleteWithAutoResolvedConflict _ (λ e. left-told s cs os p (differ-told s hs e)) (λ d. told-differ s hs (told-left s cs os p d)) (union-verdict s cs os p);
       differ-test = (differ-told s hs, told-differ s hs);
       same-test = λ xs ys. (same-lines-true xs ys, same-from xs ys);
     }

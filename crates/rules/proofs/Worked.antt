@@ -1,23 +1,27 @@
--- The worked cases come out.
+-- The worked cases, computed.
 use mathlib.Core.Path.{refl}
 use Rattle.rules.specs.Cases.{Cases}
 
 pub cases : Cases
 cases = record {
-  nothing-held = record { merge = (refl, refl); diff3 = (refl, refl); zealous = (refl, refl); ours = (refl, refl); theirs = (refl, refl); union = (refl, refl) };
-  adjacent-in-ours = (refl, refl);
-  adjacent-in-merge = (refl, refl);
-  separate-in-all = record { merge = (refl, refl); diff3 = (refl, refl); zealous = (refl, refl); ours = (refl, refl); theirs = (refl, refl); union = (refl, refl) };
-  same-deletion-in-all = record { merge = (refl, refl); diff3 = (refl, refl); zealous = (refl, refl); ours = (refl, refl); theirs = (refl, refl); union = (refl, refl) };
-  front-cut-in-merge = (refl, refl);
-  ancestor-cut-in-union = (refl, refl);
-  rewritten-in-zealous = (refl, refl);
-  between-two-in-ours = (refl, refl);
-  between-two-in-theirs = (refl, refl);
-  no-newline-in-merge = (refl, refl);
-  no-newline-same-in-all = record { merge = (refl, refl); diff3 = (refl, refl); zealous = (refl, refl); ours = (refl, refl); theirs = (refl, refl); union = (refl, refl) };
+  none-held-in-all = record { in-merge = (refl, refl); in-diff3 = (refl, refl); in-zealous = (refl, refl); in-ours = (refl, refl); in-theirs = (refl, refl); in-union = (refl, refl) };
+  adjacent-in-modes = record { in-merge = (refl, refl); in-diff3 = (refl, refl); in-zealous = (refl, refl); in-ours = (refl, refl); in-theirs = (refl, refl); in-union = (refl, refl) };
+  separate-in-all = record { in-merge = (refl, refl); in-diff3 = (refl, refl); in-zealous = (refl, refl); in-ours = (refl, refl); in-theirs = (refl, refl); in-union = (refl, refl) };
+  both-delete-in-all = record { in-merge = (refl, refl); in-diff3 = (refl, refl); in-zealous = (refl, refl); in-ours = (refl, refl); in-theirs = (refl, refl); in-union = (refl, refl) };
+  front-cut-in-modes = record { in-merge = (refl, refl); in-diff3 = (refl, refl); in-zealous = (refl, refl); in-ours = (refl, refl); in-theirs = (refl, refl); in-union = (refl, refl) };
+  ancestor-cut-in-modes = record { in-merge = (refl, refl); in-diff3 = (refl, refl); in-zealous = (refl, refl); in-ours = (refl, refl); in-theirs = (refl, refl); in-union = (refl, refl) };
+  rewritten-in-modes = record { in-merge = (refl, refl); in-diff3 = (refl, refl); in-zealous = (refl, refl); in-ours = (refl, refl); in-theirs = (refl, refl); in-union = (refl, refl) };
+  between-two-in-modes = record { in-merge = (refl, refl); in-diff3 = (refl, refl); in-zealous = (refl, refl); in-ours = (refl, refl); in-theirs = (refl, refl); in-union = (refl, refl) };
+  no-newline-in-modes = record { in-merge = (refl, refl); in-diff3 = (refl, refl); in-zealous = (refl, refl); in-ours = (refl, refl); in-theirs = (refl, refl); in-union = (refl, refl) };
+  no-newline-same-in-all = record { in-merge = (refl, refl); in-diff3 = (refl, refl); in-zealous = (refl, refl); in-ours = (refl, refl); in-theirs = (refl, refl); in-union = (refl, refl) };
+  front-ending-in-modes = record { in-merge = (refl, refl); in-diff3 = (refl, refl); in-zealous = (refl, refl); in-ours = (refl, refl); in-theirs = (refl, refl); in-union = (refl, refl) };
+  stretch-ending-in-modes = record { in-merge = (refl, refl); in-diff3 = (refl, refl); in-zealous = (refl, refl); in-ours = (refl, refl); in-theirs = (refl, refl); in-union = (refl, refl) };
+  blank-front-in-modes = record { in-merge = (refl, refl); in-diff3 = (refl, refl); in-zealous = (refl, refl); in-ours = (refl, refl); in-theirs = (refl, refl); in-union = (refl, refl) };
+  first-deletion-in-modes = record { in-merge = (refl, refl); in-diff3 = (refl, refl); in-zealous = (refl, refl); in-ours = (refl, refl); in-theirs = (refl, refl); in-union = (refl, refl) };
+  bare-return-in-modes = record { in-merge = (refl, refl); in-diff3 = (refl, refl); in-zealous = (refl, refl); in-ours = (refl, refl); in-theirs = (refl, refl); in-union = (refl, refl) };
+  cut-ending-in-modes = record { in-merge = (refl, refl); in-diff3 = (refl, refl); in-zealous = (refl, refl); in-ours = (refl, refl); in-theirs = (refl, refl); in-union = (refl, refl) };
+  union-front-in-modes = record { in-merge = (refl, refl); in-diff3 = (refl, refl); in-zealous = (refl, refl); in-ours = (refl, refl); in-theirs = (refl, refl); in-union = (refl, refl) };
+  union-back-in-modes = record { in-merge = (refl, refl); in-diff3 = (refl, refl); in-zealous = (refl, refl); in-ours = (refl, refl); in-theirs = (refl, refl); in-union = (refl, refl) };
   touching-enter-refused = refl;
   later-enter-taken = refl;
-  front-ending-in-merge = (refl, refl);
-  labels-in-zealous = (refl, refl);
 }

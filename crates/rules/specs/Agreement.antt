@@ -4,6 +4,7 @@ use mathlib.Core.Path.{_≡_}
 use mathlib.Core.Bool.{cond}
 use mathlib.Core.List.{List, map}
 use Rattle.rules.specs.declared.hunk.Hunk.{Hunk}
+use Rattle.rules.specs.declared.mode.Conflict as modes
 use Rattle.rules.specs.declared.mode.Conflict.the-variants.{Keep, ResolveWithOurs, ResolveWithTheirs}
 use Rattle.rules.specs.declared.mode.ConflictStyle.{ConflictStyle}
 use Rattle.rules.specs.declared.mode.Resolution.the-variants.{Complete, CompleteWithAutoResolvedConflict, Conflict}
@@ -15,13 +16,14 @@ use Rattle.rules.specs.Rendering.{rendering}
 use Rattle.rules.specs.Verdict.{verdict}
 use Rattle.rules.specs.Outline.{reads-as-ours, reads-as-theirs, lines-kept, all-lines, outline}
 use Rattle.rules.specs.PutIn.{put-in}
-use Rattle.rules.specs.Exchange.{exchanged-item, exchanged-hunk, exchanged-sheets}
+use Rattle.rules.specs.Exchange.{exchanged-item, exchanged-hunk, exchanged-sheets, exchanged-mode}
 use Rattle.rules.specs.Order.{Kept}
 use Rattle.rules.specs.HunkLaws.{Hunk-laws}
 use Rattle.rules.specs.WalkLaws.{Touch-law, Walked}
 use Rattle.rules.specs.GroupLaws.{Groups-are-chains, Range-laws}
 use Rattle.rules.specs.EndingLaws.{Ending-laws}
 use Rattle.rules.specs.MarkerLaws.{Marker-laws}
+use Rattle.rules.specs.UnionLaws.{Union-law}
 use Rattle.rules.specs.SideLaws.{Side-laws}
 use Rattle.rules.specs.OutlineLaws.{Outline-laws}
 use Rattle.rules.specs.VerdictLaws.{some-group-differs, Verdict-laws}
@@ -51,6 +53,7 @@ pub record Laws (s : Sheets) (cs os : List Hunk) : Type 0 where
   pub ranges : Range-laws cs os
   pub sides : Side-laws s cs os
   pub markers : Marker-laws s cs os
+  pub union : Union-law s cs os
   pub endings : Ending-laws s
 
 -- What two units show alike, the second with the sheets of current and other exchanged: in one style, any marker sizes and labels,
@@ -59,6 +62,8 @@ pub record Alike (s : Sheets) (cs os cs′ os′ : List Hunk) : Type 0 where
   pub same-outline : (st : ConflictStyle) (n n′ : ℕ) (l l′ : Labels)
       → outline st l′ (rendering (Keep st n′) (exchanged-sheets s) l′ cs′ os′) ≡ map exchanged-item (outline st l (rendering (Keep st n) s l cs os))
   pub same-verdict : (st : ConflictStyle) (n n′ : ℕ) → verdict (Keep st n′) (exchanged-sheets s) cs′ os′ ≡ verdict (Keep st n) s cs os
+  -- and in the other modes too, ours for theirs
+  pub same-judged : (m : modes.Conflict) → verdict (exchanged-mode m) (exchanged-sheets s) cs′ os′ ≡ verdict m s cs os
 
 pub record Agreement (s : Sheets) (cs os : List Hunk) : Type 0 where
   pub own : Own-laws s cs os

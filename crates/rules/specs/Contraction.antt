@@ -18,8 +18,8 @@ read-range Current h = h .after
 read-range Other h = h .after
 read-range Ancestor h = h .before
 
-abbrev pub size : Hunk → ℕ
-size h = let r = read-range (h .side) h in r .end - r .start
+abbrev pub hunk-size : Hunk → ℕ
+hunk-size h = let r = read-range (h .side) h in r .end - r .start
 
 -- A hunk that reads another range: of an Ancestor hunk both ranges change.
 abbrev pub reading : Side → Hunk → Span → Hunk
@@ -48,12 +48,12 @@ cut-here n h hs = cond (eqb n 0) (record { ahead = []; behind = h ∷ hs }) (rec
 -- The first n lines leave: a hunk without lines goes along if one of them follows it.
 abbrev pub cut-front : ℕ → List Hunk → Cut
 cut-front n [] = record { ahead = []; behind = [] }
-cut-front n (h ∷ hs) = cond (leb (size h) n && not (eqb n 0)) (ahead-more h (cut-front (n - size h) hs)) (cut-here n h hs)
+cut-front n (h ∷ hs) = cond (leb (hunk-size h) n && not (eqb n 0)) (ahead-more h (cut-front (n - hunk-size h) hs)) (cut-here n h hs)
 
 -- The first n lines stay: a hunk without lines goes along with the lines behind them only if one precedes it.
 abbrev pub cut-back : ℕ → List Hunk → Cut
 cut-back n [] = record { ahead = []; behind = [] }
-cut-back n (h ∷ hs) = cond (leb (size h) n) (ahead-more h (cut-back (n - size h) hs)) (cut-here n h hs)
+cut-back n (h ∷ hs) = cond (leb (hunk-size h) n) (ahead-more h (cut-back (n - hunk-size h) hs)) (cut-here n h hs)
 
 -- What contraction leaves of the lead side and of the facing side, and what it removed of the lead.
 pub record Contracted : Type 0 where

@@ -1,7 +1,5 @@
 -- The laws of contraction.
 use Prim.Native.Nat.{_<_}
-use Rattle.rules.specs.Contraction.{read-range}
-use Rattle.rules.specs.declared.hunk.Span.{Span}
 use mathlib.Core.Path.{_≡_}
 use mathlib.Core.Bool.{false}
 use mathlib.Core.List.{List, [], _∷_, _++_}
@@ -9,11 +7,13 @@ use Rattle.std.specs.shelf.Lists.{All}
 use Rattle.rules.specs.declared.hunk.Hunk.{Hunk}
 use Rattle.rules.specs.declared.hunk.Side.{Side}
 use Rattle.rules.specs.declared.hunk.Side.the-variants.{Current, Other, Ancestor}
+use Rattle.rules.specs.declared.hunk.Span.{Span}
 use Rattle.rules.specs.Lines.{Line}
 use Rattle.rules.specs.SharedLines.{shared-start, middle, shared-end}
 use Rattle.rules.specs.Hunks.{Sheets, side-lines, opposite}
 use Rattle.rules.specs.Groups.{Cluster}
 use Rattle.rules.specs.Filling.{ours-lines, theirs-lines, ours-of, theirs-of}
+use Rattle.rules.specs.Contraction.{read-range}
 use Rattle.rules.specs.Sides.{Sides}
 
 -- An Ancestor hunk has one range.

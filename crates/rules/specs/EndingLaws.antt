@@ -1,5 +1,4 @@
 -- The laws of line endings.
-use Rattle.rules.specs.Filling.{stretch}
 use Prim.Native.Nat.{ℕ, _-_, _≤_, _<_}
 use mathlib.Core.Path.{_≡_}
 use mathlib.Core.List.{List, [], _∷_, _++_}
@@ -9,6 +8,7 @@ use Rattle.rules.specs.declared.ending.Ending.the-variants.{Newline, ReturnNew
 use Rattle.rules.specs.declared.hunk.Hunk.{Hunk}
 use Rattle.rules.specs.Lines.{Line}
 use Rattle.rules.specs.Hunks.{Sheets, sheet-of}
+use Rattle.rules.specs.Filling.{stretch}
 use Rattle.rules.specs.Endings.{ending-before, ending-of}
 
 -- The rules of line endings in words. Of a list of hunks the last that has a range which is not empty decides: its after range, in its side's sheet,

@@ -11,7 +11,7 @@ use Rattle.rules.specs.Walk.{walk, currents, others}
 use Rattle.rules.specs.Groups.{Cluster, clusters, members, is-group, from, to}
 use Rattle.rules.specs.Exchange.{exchanged-hunk}
 use Rattle.rules.specs.Order.{Kept}
-use Rattle.rules.specs.WalkLaws.{In-turn}
+use Rattle.rules.specs.WalkLaws.{In-turn, Pairwise}
 
 -- A chain of touching hunks of a list.
 pub data Chain (hs : List Hunk) : Hunk → Hunk → Type 0 where
@@ -54,13 +54,6 @@ pub record Range-laws (cs os : List Hunk) : Type 0 where
   pub apart : In-turn Apart (clusters (walk cs os))
   pub ours-apart : In-turn Behind (walk cs (lone-ones cs os))
   pub theirs-apart : In-turn Behind (walk (lone-ones os cs) os)
-
--- Two lists of one length whose elements are related pair by pair, in order.
-abbrev pub Pairwise : (Cluster → Cluster → Type 0) → List Cluster → List Cluster → Type 0
-Pairwise R [] [] = Unit {0}
-Pairwise R [] (y ∷ ys) = ⊥
-Pairwise R (x ∷ xs) [] = ⊥
-Pairwise R (x ∷ xs) (y ∷ ys) = R x y × Pairwise R xs ys
 
 -- A cluster, and the same one after the sides are exchanged.
 pub record Exchanged (k k′ : Cluster) : Type 0 where

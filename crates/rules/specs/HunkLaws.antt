@@ -1,5 +1,4 @@
 -- The laws of hunks: which lines they stand for, and what fills a group's sides.
-use Rattle.rules.specs.Walk.{currents, others}
 use Prim.Native.Nat.{ℕ, _+_, _≤_}
 use mathlib.Core.Path.{_≡_}
 use mathlib.Core.List.{List, [], _∷_, _++_}
@@ -8,6 +7,7 @@ use Rattle.rules.specs.declared.hunk.Hunk.{Hunk}
 use Rattle.rules.specs.declared.hunk.Side.the-variants.{Current, Other, Ancestor}
 use Rattle.rules.specs.Lines.{Line}
 use Rattle.rules.specs.Hunks.{Sheets, hunk-lines, side-lines}
+use Rattle.rules.specs.Walk.{currents, others}
 use Rattle.rules.specs.Groups.{from, to, Cluster, members}
 use Rattle.rules.specs.Filling.{ours-lines, ours-of, theirs-lines, theirs-of}
 use Rattle.rules.specs.PutIn.{put-between}

@@ -32,6 +32,7 @@ pub mod GroupLaws
 pub mod ContractionLaws
 pub mod EndingLaws
 pub mod MarkerLaws
+pub mod UnionLaws
 pub mod SideLaws
 pub mod OutlineLaws
 pub mod VerdictLaws
@@ -40,4 +41,5 @@ pub mod RenderLaws
 pub mod Lengths
 pub mod Agreement
 pub mod RunLaws
+pub mod Statements
 pub mod Cases

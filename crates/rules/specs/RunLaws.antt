@@ -1,23 +1,27 @@
 -- The laws over runs of calls: what a table keeps, and what two units agree on after any two runs.
-use Prim.Native.Nat.{ℕ, _≤_}
+use Prim.Native.Nat.{ℕ, _≤_, _<_}
 use mathlib.Core.Path.{_≡_}
 use mathlib.Core.List.{List, [], _∷_, _++_, map}
 use lib.ListN.{length}
-use Rattle.std.specs.shelf.Lists.{All}
+use Rattle.std.specs.shelf.Lists.{All, reverse}
 use Rattle.std.specs.declared.result.Result.{Result}
-use Rattle.std.specs.declared.result.Result.the-variants.{Ok}
+use Rattle.std.specs.declared.result.Result.the-variants.{Ok, Err}
 use Rattle.rules.specs.declared.hunk.Hunk.{Hunk}
 use Rattle.rules.specs.declared.hunk.Side.{Side}
 use Rattle.rules.specs.declared.mode.Resolution.{Resolution}
+use Rattle.rules.specs.declared.refusal.RenderRefusal.{RenderRefusal}
+use Rattle.rules.specs.declared.refusal.RenderRefusal.the-variants.{SinkTooSmall}
 use Rattle.rules.specs.declared.refusal.TableRefusal.{TableRefusal}
 use Rattle.rules.specs.Limits.{max-lines}
 use Rattle.rules.specs.Hunks.{Sheets}
 use Rattle.rules.specs.Pieces.{Chunk, one-more, more-bytes}
-use Rattle.rules.specs.Tables.{Held, new-table, open-after, enter-after, enter-answer, withdraw-after, withdraw-answer}
+use Rattle.rules.specs.Refusals.{render-number, table-number}
+use Rattle.rules.specs.Tables.{Held, new-table, open-after, enter-after, withdraw-after, held-of}
 use Rattle.rules.specs.Renders.{Asked, render-answer}
-use Rattle.rules.specs.Runs.{Call, open-with, enter, withdraw, render, after-run, opening, No-opening}
+use Rattle.rules.specs.Runs.{Call, open-with, enter, withdraw, render, after-run, opening, No-opening, Answer, counted-as, judged-as, made-calls, opened-as, standing, answers}
 use Rattle.rules.specs.Exchange.{exchanged-sheets, Holds-exchanged, exchanged-call}
-use Rattle.rules.specs.TableLaws.{Table-rules, Table-keeps, Keeps-law}
+use Rattle.rules.specs.WalkLaws.{Pairwise}
+use Rattle.rules.specs.TableLaws.{Table-rules, Table-keeps, Keeps-law, Two-sided}
 use Rattle.rules.specs.RenderLaws.{Counted, Render-rules}
 use Rattle.rules.specs.Lengths.{Length-law}
 use Rattle.rules.specs.Agreement.{Alike, Laws}
@@ -30,15 +34,24 @@ pub record Few-lines (s : Sheets) : Type 0 where
   pub current : length (s .current) ≤ max-lines
   pub other : length (s .other) ≤ max-lines
 
-abbrev pub answers : Held → List Call → List (Result ℕ TableRefusal)
-answers t [] = []
-answers t (open-with a c o ∷ xs) = answers (open-after t a c o) xs
-answers t (enter h ∷ xs) = enter-answer t h ∷ answers (enter-after t h) xs
-answers t (withdraw side ∷ xs) = withdraw-answer t side ∷ answers (withdraw-after t side) xs
-answers t (render s a ∷ xs) = answers t xs
+-- What is held of a side is the accepted enters not withdrawn.
+abbrev pub Held-law : List Call → Type 0
+Held-law xs = (side : Side) → Two-sided side → held-of (after-run xs) side ≡ standing side 0 (reverse (made-calls new-table xs))
+
+-- The answers of two units to the same calls, sides exchanged. Enter and withdrawal answer the same; an opening is accepted by both or refused by
+-- both with one number; and so is a render, with one verdict, except that the two renderings may differ in length, since their line endings may:
+-- one of them can then be too long for its sink.
+pub data Alike-answers : Answer → Answer → Type 0 where
+  both-open : Alike-answers (opened-as (Ok tt)) (opened-as (Ok tt))
+  none-opens : (r r′ : TableRefusal) → table-number r ≡ table-number r′ → Alike-answers (opened-as (Err r)) (opened-as (Err r′))
+  one-count : (x : Result ℕ TableRefusal) → Alike-answers (counted-as x) (counted-as x)
+  one-verdict : (v : Resolution) → Alike-answers (judged-as (Ok v)) (judged-as (Ok v))
+  one-number : (r r′ : RenderRefusal) → render-number r ≡ render-number r′ → Alike-answers (judged-as (Err r)) (judged-as (Err r′))
+  first-too-long : (n c : ℕ) (v : Resolution) → c < n → Alike-answers (judged-as (Err (SinkTooSmall n c))) (judged-as (Ok v))
+  second-too-long : (n c : ℕ) (v : Resolution) → c < n → Alike-answers (judged-as (Ok v)) (judged-as (Err (SinkTooSmall n c)))
 
 pub record Same-calls (xs : List Call) : Type 0 where
-  pub same-answers : answers new-table (map exchanged-call xs) ≡ answers new-table xs
+  pub same-answers : Pairwise Alike-answers (answers new-table xs) (answers new-table (map exchanged-call xs))
   pub same-hunks : Holds-exchanged (after-run xs) (after-run (map exchanged-call xs))
 
 abbrev pub Same-calls-same-hunks : Type 0
@@ -70,6 +83,7 @@ pub record Agreement-over-runs (V : Type 0) (rule : V → Chunk → V) (fresh : 
   pub keeps-test : Keeps-law
   pub rules : (xs : List Call) → Table-rules (after-run xs)
   pub calls : (xs : List Call) → Call-laws xs
+  pub held : (xs : List Call) → Held-law xs
   pub same-calls : (xs : List Call) → Same-calls xs
   -- size and render, of any three sheets
   pub renders : (xs : List Call) (s : Sheets) → Render-rules V rule fresh (after-run xs) s

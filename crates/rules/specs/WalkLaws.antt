@@ -17,6 +17,13 @@ abbrev pub In-turn : {X : Type 0} → (X → X → Type 0) → List X → Type 0
 In-turn R [] = Unit {0}
 In-turn R (x ∷ xs) = All (R x) xs × In-turn R xs
 
+-- Two lists of one length whose elements are related pair by pair, in order.
+abbrev pub Pairwise : {X Y : Type 0} → (X → Y → Type 0) → List X → List Y → Type 0
+Pairwise R [] [] = Unit {0}
+Pairwise R [] (y ∷ ys) = ⊥
+Pairwise R (x ∷ xs) [] = ⊥
+Pairwise R (x ∷ xs) (y ∷ ys) = R x y × Pairwise R xs ys
+
 -- Two hunks of opposite sides touch if the later one starts at most where the earlier one ends.
 abbrev pub Opposite : Side → Side → Type 0
 Opposite a b = ((a ≡ Current) × (b ≡ Other)) ⊎ ((a ≡ Other) × (b ≡ Current))

@@ -1,5 +1,5 @@
 use Rattle.rules.proofs.Worked.{cases}
-use Rattle.rules.proofs.cases_stand.Needs as need
+use Rattle.rules.proofs.laws.cases_stand.Needs as need
 
 pub returns : need.returns
 returns c = cases

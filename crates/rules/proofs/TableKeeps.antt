@@ -1,4 +1,4 @@
--- What a table keeps through every run, and so the agreement over runs.
+-- What a table keeps through every run, and the counts that it has.
 use Prim.Native.Nat.{ℕ, zero, suc, _-_, _≤_, _<_}
 use native.Mathlib.Omega.{arith}
 use mathlib.Core.Path.{_≡_, refl, sym, ap, _∙_, subst, subst₂}
@@ -17,23 +17,16 @@ use Rattle.rules.specs.declared.hunk.Side.the-variants.{Current, Other, Ancest
 use Rattle.rules.specs.declared.refusal.TableRefusal.{TableRefusal}
 use Rattle.rules.specs.Limits.{max-lines, max-hunks}
 use Rattle.rules.specs.Hunks.{Sheets}
-use Rattle.rules.specs.Pieces.{Chunk}
 use Rattle.rules.specs.Questions.{changed}
 use Rattle.rules.specs.Tables.{Held, opened, new-table, held-of, holding, within, changes, follows, last-from, last-of, without-last, open-questions, enter-questions, withdraw-questions, same-side, sound, keeps-from}
 use Rattle.rules.specs.Runs.{Call, open-with, enter, withdraw, render, after-call, after-calls, after-run, opening, No-opening}
-use Rattle.rules.specs.Exchange.{exchanged-sheets, Holds-exchanged}
 use Rattle.rules.specs.Order.{In-order, Kept}
 use Rattle.rules.specs.TableLaws.{Not-empty, May-enter, Table-keeps, Keeps-law}
 use Rattle.rules.specs.RenderLaws.{Counted}
-use Rattle.rules.specs.Agreement.{Alike}
-use Rattle.rules.specs.RunLaws.{Tables-keep, Few-lines, Call-laws, Agreement-over-runs, Units-agree-over-runs}
-use Rattle.rules.proofs.Agreed.{laws, units-agree}
+use Rattle.rules.specs.RunLaws.{Tables-keep, Few-lines}
 use Rattle.rules.proofs.Asking.{yes-then, then-yes}
 use Rattle.rules.proofs.Keeping.{side-same}
-use Rattle.rules.proofs.Lengths.{length-law}
-use Rattle.rules.proofs.Rendered.{render-rules, accepted-counted}
-use Rattle.rules.proofs.Rules.{within-says, says-within, changes-says, says-changes, follows-says, says-follows, last-behind, may-enter, follow-rules}
-use Rattle.rules.proofs.Turned.{same-calls}
+use Rattle.rules.proofs.Rules.{within-says, says-within, changes-says, says-changes, follows-says, says-follows, last-behind, may-enter}
 
 -- one more hunk, behind the last
 module _ (side : Side) (na ns : ℕ) (h : Hunk) (e : h .side ≡ side) (b₀ : h .before .start ≤ h .before .end) (b₁ : h .before .end ≤ na) (a₀ : h .after .start ≤ h .after .end) (a₁ : h .after .end ≤ ns) where
@@ -115,7 +108,7 @@ small-counts a c o p q r = then-yes (leb a max-lines) _ _ (le-leb a max-lines p)
 opened-keeps : (a c o : ℕ) → (a ≤ max-lines) × (c ≤ max-lines) × (o ≤ max-lines) → Table-keeps (opened a c o)
 opened-keeps a c o p = record { small = p; current = tt; other = tt; few-current = omega arith; few-other = omega arith; full-current = tt; full-other = tt }
 
-call-keeps : (t : Held) (x : Call) → Table-keeps t → Table-keeps (after-call t x)
+pub call-keeps : (t : Held) (x : Call) → Table-keeps t → Table-keeps (after-call t x)
 call-keeps t (open-with a c o) p = either-keeps (open-questions a c o) t (opened a c o) (λ e. opened-keeps a c o (counts-small a c o e)) p
 call-keeps t (enter h) p =
     either-keeps (enter-questions t (h .side) h) t (holding t (h .side) (held-of t (h .side) ++ (h ∷ []))) (λ e. entered t (h .side) h refl p (may-enter t (h .side) h e)) p
@@ -150,11 +143,11 @@ calls-counted : (s : Sheets) (t : Held) (xs : List Call) → All No-opening xs �
 calls-counted s t [] n p = p
 calls-counted s t (x ∷ xs) n p = calls-counted s (after-call t x) xs (n .1) (call-counted s t x (n .0) p)
 
-after-both : (t : Held) (xs ys : List Call) → after-calls t (xs ++ ys) ≡ after-calls (after-calls t xs) ys
+pub after-both : (t : Held) (xs ys : List Call) → after-calls t (xs ++ ys) ≡ after-calls (after-calls t xs) ys
 after-both t [] ys = refl
 after-both t (x ∷ xs) ys = after-both (after-call t x) xs ys
 
-since-opening : (s : Sheets) (xs ys : List Call) → Few-lines s → All No-opening ys → Counted s (after-run (xs ++ (opening s ∷ ys)))
+pub since-opening : (s : Sheets) (xs ys : List Call) → Few-lines s → All No-opening ys → Counted s (after-run (xs ++ (opening s ∷ ys)))
 since-opening s xs ys few n =
     let t = after-run xs in
     let q = small-counts (length (s .ancestor)) (length (s .current)) (length (s .other)) (few .ancestor) (few .current) (few .other) in
@@ -168,20 +161,8 @@ table-kept s t p n = record {
   other = subst₂ (λ (a o : ℕ). In-order Other a o 0 0 (t .other)) (sym (n .ancestor)) (sym (n .other)) (p .other);
 }
 
-alike-after : (s : Sheets) (t t′ : Held) → Kept s (t .current) (t .other) → Holds-exchanged t t′ → Alike s (t .current) (t .other) (t′ .current) (t′ .other)
-alike-after s t t′ p q = subst₂ (λ (x y : List Hunk). Alike s (t .current) (t .other) x y) (sym (q .0)) (sym (q .1)) (units-agree s (t .current) (t .other) p .alike)
-
-call-laws : (xs : List Call) → Call-laws xs
-call-laws xs = record {
-  begun = refl;
-  opened-next = λ a c o. after-both new-table xs (open-with a c o ∷ []);
-  entered-next = λ h. after-both new-table xs (enter h ∷ []);
-  withdrawn-next = λ side. after-both new-table xs (withdraw side ∷ []);
-  rendered-next = λ s a. after-both new-table xs (render s a ∷ []);
-}
-
 -- the test of a side's hunks
-same-says : (a b : Side) → same-side a b ≡ true → a ≡ b
+pub same-says : (a b : Side) → same-side a b ≡ true → a ≡ b
 same-says Current Current e = refl
 same-says Current Other e = absurd (false≢true e)
 same-says Current Ancestor e = absurd (false≢true e)
@@ -236,33 +217,3 @@ module _ (na ns : ℕ) (side : Side) where
 
 pub keeps-law : Keeps-law
 keeps-law na ns side hs = (keeps-says na ns side None hs, λ p. says-keeps na ns side None hs (p .0) (p .1))
-
-pub agree-over-runs : (V : Type 0) (rule : V → Chunk → V) (fresh : V) (V′ : Type 0) (rule′ : V′ → Chunk → V′) (fresh′ : V′) → Agreement-over-runs V rule fresh V′ rule′ fresh′
-agree-over-runs V rule fresh V′ rule′ fresh′ = record {
-  keeps = tables-keep;
-  keeps-test = keeps-law;
-  rules = λ xs. follow-rules (after-run xs);
-  calls = call-laws;
-  same-calls = same-calls;
-  renders = λ xs. render-rules V rule fresh (after-run xs);
-  renders′ = λ xs. render-rules V′ rule′ fresh′ (after-run xs);
-  since-opening = since-opening;
-  when-accepted = λ s xs. accepted-counted (after-run xs) s;
-  agree = λ s xs ys p q.
-      let t = after-run xs in
-      let t′ = after-run ys in
-      let k = tables-keep xs in
-      let k′ = tables-keep ys in
-      let h = table-kept s t k p in
-      let h′ = table-kept (exchanged-sheets s) t′ k′ q in
-      record {
-        first = laws s (t .current) (t .other) h;
-        second = laws (exchanged-sheets s) (t′ .current) (t′ .other) h′;
-        first-short = length-law s (t .current) (t .other) h (k .few-current) (k .few-other);
-        second-short = length-law (exchanged-sheets s) (t′ .current) (t′ .other) h′ (k′ .few-current) (k′ .few-other);
-        alike = alike-after s t t′ h;
-      };
-}
-
-pub units-agree-over-runs : Units-agree-over-runs
-units-agree-over-runs = agree-over-runs _ _ _ _ _ _
