@@ -18,6 +18,7 @@ read-range Current h = h .after
 read-range Other h = h .after
 read-range Ancestor h = h .before
 
+-- How many lines a hunk has.
 abbrev pub hunk-size : Hunk → ℕ
 hunk-size h = let r = read-range (h .side) h in r .end - r .start
 
@@ -42,6 +43,7 @@ pub record Cut : Type 0 where
 abbrev pub ahead-more : Hunk → Cut → Cut
 ahead-more h c = record { ahead = h ∷ c .ahead; behind = c .behind }
 
+-- A cut behind the first n lines of the first hunk.
 abbrev pub cut-here : ℕ → Hunk → List Hunk → Cut
 cut-here n h hs = cond (eqb n 0) (record { ahead = []; behind = h ∷ hs }) (record { ahead = first-lines n h ∷ []; behind = later-lines n h ∷ hs })
 
@@ -62,6 +64,7 @@ pub record Contracted : Type 0 where
   pub facing : List Hunk
   pub back : List Hunk
 
+-- Trailing lines, once the leading ones have left as front.
 abbrev pub trimmed : Sheets → List Hunk → List Hunk → List Hunk → Contracted
 trimmed s front a b =
     let la = side-lines s a in
@@ -71,6 +74,7 @@ trimmed s front a b =
     let cb = cut-back (length lb - n) b in
     record { front = front; lead = ca .ahead; facing = cb .ahead; back = ca .behind }
 
+-- Leading lines, then trailing lines.
 abbrev pub contracted : Sheets → List Hunk → List Hunk → Contracted
 contracted s a b =
     let n = shared-front (side-lines s a) (side-lines s b) in

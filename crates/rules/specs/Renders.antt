@@ -28,6 +28,7 @@ pub record Asked : Type 0 where
   pub labels : Labels
   pub capacity : ℕ
 
+-- The marker size is asked for under Keep alone.
 abbrev pub size-fits : modes.Conflict → Bool
 size-fits (Keep style n) = leb 1 n && leb n max-marker-size
 size-fits ResolveWithOurs = true
@@ -49,6 +50,7 @@ shared-questions t s m l next =
     (ask (label-fits (l .current)) (LabelTooLong Current)
     (ask (label-fits (l .other)) (LabelTooLong Other) next))))))
 
+-- The length of the rendering.
 abbrev pub needed : Held → Sheets → modes.Conflict → Labels → ℕ
 needed t s m l = total (rendering m s l (t .current) (t .other))
 
