@@ -22,7 +22,7 @@ use Rattle.rules.specs.Rendering.{rendering}
 use Rattle.rules.specs.Verdict.{verdict}
 use Rattle.rules.specs.Tables.{opened, enter-answer, enter-after}
 
--- The hunk-of a..b/c..d of a side: a..b in the ancestor, c..d in the side's sheet.
+-- The hunk a..b/c..d of a side: a..b in the ancestor, c..d in the side's sheet.
 abbrev pub hunk-of : Side → ℕ → ℕ → ℕ → ℕ → Hunk
 hunk-of side a b c d = record { before = record { start = a; end = b }; after = record { start = c; end = d }; side = side }
 
@@ -106,7 +106,7 @@ both-delete = record {
   size = 7;
 }
 
--- A stretch of the ancestor is cut at the front, behind a hunk-of without lines.
+-- A stretch of the ancestor is cut at the front, behind a hunk without lines.
 abbrev pub front-cut : Case
 front-cut = record {
   sheets = sheets-of (text-lines (codes "a\nx\nx\ny\ne\n")) (text-lines (codes "a\nx\ny\ne\n")) (text-lines (codes "a\nx\nz\ne\n"));
@@ -136,7 +136,7 @@ rewritten = record {
   size = 7;
 }
 
--- One hunk-of joins two of the other side into one group; the lines between these are written once.
+-- One hunk joins two of the other side into one group; the lines between these are written once.
 abbrev pub between-two : Case
 between-two = record {
   sheets = sheets-of (text-lines (codes "a\nb\nc\nd\n")) (text-lines (codes "A\nb\nc\nD\n")) (text-lines (codes "a\nd\n"));
@@ -208,7 +208,7 @@ first-deletion = record {
 }
 
 -- A last line that ends in a bare carriage return lacks the newline: the line ahead of it decides, though it lies
--- outside the hunk-of.
+-- outside the hunk.
 abbrev pub bare-return : Case
 bare-return = record {
   sheets = sheets-of (text-lines (codes "k\r\na\r")) (text-lines (codes "k\r\nb\r")) (text-lines (codes "k\r\nc\r"));
@@ -244,6 +244,16 @@ union-back = record {
   sheets = sheets-of (text-lines (codes "a\nb\n")) (text-lines (codes "p\nb\n")) (text-lines (codes "u\r\nv"));
   current = cur 0 2 0 2 ∷ [];
   other = oth 0 1 0 2 ∷ [];
+  labels = no-labels;
+  size = 7;
+}
+
+-- At equal starts Current comes first and leads, so that the front is its own. These hunks do not come of a true diff.
+abbrev pub equal-starts : Case
+equal-starts = record {
+  sheets = sheets-of (text-lines (codes "a\nb\nm\n")) (text-lines (codes "e\r\nf")) (text-lines (codes "g\nf"));
+  current = cur 0 1 1 2 ∷ [];
+  other = oth 0 2 1 2 ∷ [];
   labels = no-labels;
   size = 7;
 }
@@ -351,6 +361,13 @@ pub record Cases : Type 0 where
       (gives (codes "p\nb\n") CompleteWithAutoResolvedConflict)
       (gives (codes "u\r\nvb\n") CompleteWithAutoResolvedConflict)
       (gives (codes "p\nu\r\nv\r\nb\n") CompleteWithAutoResolvedConflict)
-  -- the table: behind 0..1/0..1 a hunk-of that starts at its end is refused, one that leaves a line between is not
+  pub equal-starts-in-modes : In-modes equal-starts
+      (gives (codes "f\r\n<<<<<<<\r\nb\n=======\r\n>>>>>>>\r\nm\n") Conflict)
+      (gives (codes "<<<<<<<\nfb\n|||||||\na\nb\n=======\nf\n>>>>>>>\nm\n") Conflict)
+      (gives (codes "f\r\n<<<<<<<\r\nb\n|||||||\na\nb\n=======\r\n>>>>>>>\r\nm\n") Conflict)
+      (gives (codes "fb\nm\n") CompleteWithAutoResolvedConflict)
+      (gives (codes "fm\n") CompleteWithAutoResolvedConflict)
+      (gives (codes "f\r\nb\nm\n") CompleteWithAutoResolvedConflict)
+  -- the table: behind 0..1/0..1 a hunk that starts at its end is refused, one that leaves a line between is not
   pub touching-enter-refused : enter-answer (enter-after (opened 2 3 3) (cur 0 1 0 1)) (cur 1 1 1 2) ≡ Err NotBehindLast
   pub later-enter-taken : enter-answer (enter-after (opened 2 3 3) (cur 0 1 0 1)) (cur 2 2 2 3) ≡ Ok 2
