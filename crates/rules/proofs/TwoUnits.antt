@@ -1,7 +1,4 @@
 -- The agreement of two units, told of their renders.
-use Rattle.rules.specs.Rendering.{rendering}
-use Rattle.rules.specs.Runs.{opening}
-use Rattle.rules.specs.Verdict.{verdict}
 use Prim.Native.Nat.{ℕ}
 use native.Mathlib.Omega.{arith}
 use mathlib.Core.Path.{_≡_, refl, sym, ap, subst, subst₂, _∙_}
@@ -21,9 +18,12 @@ use Rattle.rules.specs.Hunks.{Sheets}
 use Rattle.rules.specs.Walk.{walk}
 use Rattle.rules.specs.Groups.{clusters}
 use Rattle.rules.specs.Pieces.{Chunk}
+use Rattle.rules.specs.Rendering.{rendering}
+use Rattle.rules.specs.Verdict.{verdict}
 use Rattle.rules.specs.Questions.{answered}
 use Rattle.rules.specs.Tables.{Held}
-use Rattle.rules.specs.Renders.{Asked, render-answer, render-questions, render-sink}
+use Rattle.rules.specs.Renders.{Asked, render-answer, render-questions}
+use Rattle.rules.specs.Runs.{opening}
 use Rattle.rules.specs.Outline.{outline, spelled, all-lines, has-block, ours-part, theirs-part}
 use Rattle.rules.specs.Exchange.{exchanged-item, exchanged-sheets}
 use Rattle.rules.specs.Order.{Kept}

@@ -258,6 +258,16 @@ equal-starts = record {
   size = 7;
 }
 
+-- The leading lines are shared first, so that a line that could be either stands ahead of the block.
+abbrev pub repeated-line : Case
+repeated-line = record {
+  sheets = sheets-of (text-lines (codes "m\n")) (text-lines (codes "a\na\n")) (text-lines (codes "a\n"));
+  current = cur 0 1 0 2 ∷ [];
+  other = oth 0 1 0 1 ∷ [];
+  labels = no-labels;
+  size = 7;
+}
+
 pub record Cases : Type 0 where
   pub none-held-in-all : Always none-held (codes "a\nb\n") Complete
   pub adjacent-in-modes : In-modes adjacent
@@ -368,6 +378,13 @@ pub record Cases : Type 0 where
       (gives (codes "fb\nm\n") CompleteWithAutoResolvedConflict)
       (gives (codes "fm\n") CompleteWithAutoResolvedConflict)
       (gives (codes "f\r\nb\nm\n") CompleteWithAutoResolvedConflict)
+  pub repeated-line-in-modes : In-modes repeated-line
+      (gives (codes "a\n<<<<<<<\na\n=======\n>>>>>>>\n") Conflict)
+      (gives (codes "<<<<<<<\na\na\n|||||||\nm\n=======\na\n>>>>>>>\n") Conflict)
+      (gives (codes "a\n<<<<<<<\na\n|||||||\nm\n=======\n>>>>>>>\n") Conflict)
+      (gives (codes "a\na\n") CompleteWithAutoResolvedConflict)
+      (gives (codes "a\n") CompleteWithAutoResolvedConflict)
+      (gives (codes "a\na\n") CompleteWithAutoResolvedConflict)
   -- the table: behind 0..1/0..1 a hunk that starts at its end is refused, one that leaves a line between is not
   pub touching-enter-refused : enter-answer (enter-after (opened 2 3 3) (cur 0 1 0 1)) (cur 1 1 1 2) ≡ Err NotBehindLast
   pub later-enter-taken : enter-answer (enter-after (opened 2 3 3) (cur 0 1 0 1)) (cur 2 2 2 3) ≡ Ok 2

@@ -1,7 +1,5 @@
 -- The agreement of two units, told of their renders. They have the same three sheets, current on one being other on the second. The table of each is
 -- opened with the counts of its sheets, and then used by any enters, withdrawals and renders, accepted or refused.
-use Rattle.rules.specs.Rendering.{rendering}
-use Rattle.rules.specs.declared.hunk.Hunk.{Hunk}
 use Prim.Native.Nat.{ℕ}
 use mathlib.Core.Path.{_≡_}
 use mathlib.Core.Bool.{Bool, true, false}
@@ -9,6 +7,7 @@ use mathlib.Core.List.{List, _∷_, _++_, map}
 use mathlib.Core.Logic.{_⊎_}
 use Rattle.std.specs.declared.result.Result.the-variants.{Ok}
 use Rattle.std.specs.shelf.Lists.{All}
+use Rattle.rules.specs.declared.hunk.Hunk.{Hunk}
 use Rattle.rules.specs.declared.mode.Conflict.the-variants.{Keep, ResolveWithOurs, ResolveWithTheirs}
 use Rattle.rules.specs.declared.mode.ConflictStyle.{ConflictStyle}
 use Rattle.rules.specs.declared.mode.Resolution.{Resolution}
@@ -16,8 +15,9 @@ use Rattle.rules.specs.declared.mode.Resolution.the-variants.{CompleteWithAuto
 use Rattle.rules.specs.Hunks.{Sheets, lone-ones}
 use Rattle.rules.specs.Walk.{walk}
 use Rattle.rules.specs.Pieces.{Chunk}
+use Rattle.rules.specs.Rendering.{rendering}
 use Rattle.rules.specs.Tables.{Held}
-use Rattle.rules.specs.Renders.{Asked, render-answer, render-sink}
+use Rattle.rules.specs.Renders.{Asked, render-answer}
 use Rattle.rules.specs.Runs.{opening, Call, No-opening, after-run}
 use Rattle.rules.specs.Outline.{outline, spelled, all-lines, has-block, ours-part, theirs-part}
 use Rattle.rules.specs.PutIn.{put-in}
