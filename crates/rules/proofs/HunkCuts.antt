@@ -18,7 +18,7 @@ use Rattle.rules.specs.SharedLines.{shared-front, shared-back}
 use Rattle.rules.specs.Hunks.{Sheets, side-lines, hunk-lines}
 use Rattle.rules.specs.Groups.{Cluster}
 use Rattle.rules.specs.Filling.{ours-of, theirs-of}
-use Rattle.rules.specs.Contraction.{Cut, size, reading, contracted, read-range, first-lines, cut-here, cut-front, cut-back, later-lines, ahead-more}
+use Rattle.rules.specs.Contraction.{Cut, hunk-size, reading, contracted, read-range, first-lines, cut-here, cut-front, cut-back, later-lines, ahead-more}
 use Rattle.rules.specs.Sides.{Sides, contracted-by}
 use Rattle.rules.specs.ContractionLaws.{Parted, Parts, Cut-in-two, Has-line, Cuts, Parts-by, between-hunks, Facing-cuts, within-hunk}
 use Rattle.rules.proofs.Cuts.{Whole, front-splits, back-splits}
@@ -43,7 +43,7 @@ parts-by Ancestor h n e p q =
     let r = h .before in
     parts-of Ancestor h (reading Ancestor h (record { start = r .start; end = r .start + n })) (reading Ancestor h (record { start = r .start + n; end = r .end })) e refl refl (parted r n p q, refl, refl)
 
-parts : (h : Hunk) (n : ℕ) → 0 < n → n < size h → Parts h (first-lines n h) (later-lines n h)
+parts : (h : Hunk) (n : ℕ) → 0 < n → n < hunk-size h → Parts h (first-lines n h) (later-lines n h)
 parts h n p q = parts-by (h .side) h n refl p q
 
 -- one more hunk ahead
@@ -54,39 +54,39 @@ one-ahead h hs a b (within-hunk xs g x y ys p) = within-hunk (h ∷ xs) g x y ys
 abbrev Cuts-in : List Hunk → Cut → Type 0
 Cuts-in hs c = Cut-in-two hs (c .ahead) (c .behind)
 
-here-cuts : (n : ℕ) (h : Hunk) (hs : List Hunk) → (n ≡ 0 → ⊥) → n < size h → Cuts-in (h ∷ hs) (record { ahead = first-lines n h ∷ []; behind = later-lines n h ∷ hs })
+here-cuts : (n : ℕ) (h : Hunk) (hs : List Hunk) → (n ≡ 0 → ⊥) → n < hunk-size h → Cuts-in (h ∷ hs) (record { ahead = first-lines n h ∷ []; behind = later-lines n h ∷ hs })
 here-cuts n h hs f q = within-hunk [] h (first-lines n h) (later-lines n h) hs (parts h n (omega (arith, f)) q)
 
-cut-here-cuts : (n : ℕ) (h : Hunk) (hs : List Hunk) → ((n ≡ 0 → ⊥) → n < size h) → Cuts-in (h ∷ hs) (cut-here n h hs)
+cut-here-cuts : (n : ℕ) (h : Hunk) (hs : List Hunk) → ((n ≡ 0 → ⊥) → n < hunk-size h) → Cuts-in (h ∷ hs) (cut-here n h hs)
 cut-here-cuts n h hs f = cond-both (eqb n 0) (record { ahead = []; behind = h ∷ hs }) (record { ahead = first-lines n h ∷ []; behind = later-lines n h ∷ hs }) (Cuts-in (h ∷ hs))
     (λ _. between-hunks [] (h ∷ hs))
     (λ e. let z : n ≡ 0 → ⊥ = λ q. true≢false (sym (ap (λ (i : ℕ). eqb i 0) q) ∙ e) in here-cuts n h hs z (f z))
 
-not-whole : (n : ℕ) (h : Hunk) → (leb (size h) n && not (eqb n 0)) ≡ false → (n ≡ 0 → ⊥) → n < size h
-not-whole n h e z = by (and-cases (leb (size h) n) (not (eqb n 0)) e)
+not-whole : (n : ℕ) (h : Hunk) → (leb (hunk-size h) n && not (eqb n 0)) ≡ false → (n ≡ 0 → ⊥) → n < hunk-size h
+not-whole n h e z = by (and-cases (leb (hunk-size h) n) (not (eqb n 0)) e)
   where
-    by : (leb (size h) n ≡ false) ⊎ (not (eqb n 0) ≡ false) → n < size h
-    by (inl p) = leb-false (size h) n p
+    by : (leb (hunk-size h) n ≡ false) ⊎ (not (eqb n 0) ≡ false) → n < hunk-size h
+    by (inl p) = leb-false (hunk-size h) n p
     by (inr p) = absurd (z (eqb-true n 0 (not-false (eqb n 0) p)))
 
 front-cuts : (n : ℕ) (hs : List Hunk) → Cuts-in hs (cut-front n hs)
 front-cuts n [] = between-hunks [] []
 front-cuts n (h ∷ hs) =
-    let rest = front-cuts (n - size h) hs in
-    cond-both (leb (size h) n && not (eqb n 0)) (ahead-more h (cut-front (n - size h) hs)) (cut-here n h hs) (Cuts-in (h ∷ hs))
-    (λ _. one-ahead h hs (cut-front (n - size h) hs .ahead) (cut-front (n - size h) hs .behind) rest)
+    let rest = front-cuts (n - hunk-size h) hs in
+    cond-both (leb (hunk-size h) n && not (eqb n 0)) (ahead-more h (cut-front (n - hunk-size h) hs)) (cut-here n h hs) (Cuts-in (h ∷ hs))
+    (λ _. one-ahead h hs (cut-front (n - hunk-size h) hs .ahead) (cut-front (n - hunk-size h) hs .behind) rest)
     (λ e. cut-here-cuts n h hs (not-whole n h e))
 
 back-cuts : (n : ℕ) (hs : List Hunk) → Cuts-in hs (cut-back n hs)
 back-cuts n [] = between-hunks [] []
 back-cuts n (h ∷ hs) =
-    let rest = back-cuts (n - size h) hs in
-    cond-both (leb (size h) n) (ahead-more h (cut-back (n - size h) hs)) (cut-here n h hs) (Cuts-in (h ∷ hs))
-    (λ _. one-ahead h hs (cut-back (n - size h) hs .ahead) (cut-back (n - size h) hs .behind) rest)
-    (λ e. cut-here-cuts n h hs (λ _. leb-false (size h) n e))
+    let rest = back-cuts (n - hunk-size h) hs in
+    cond-both (leb (hunk-size h) n) (ahead-more h (cut-back (n - hunk-size h) hs)) (cut-here n h hs) (Cuts-in (h ∷ hs))
+    (λ _. one-ahead h hs (cut-back (n - hunk-size h) hs .ahead) (cut-back (n - hunk-size h) hs .behind) rest)
+    (λ e. cut-here-cuts n h hs (λ _. leb-false (hunk-size h) n e))
 
 -- lines of a hunk and of its parts
-lines-there : (h : Hunk) → 0 < size h → Has-line h
+lines-there : (h : Hunk) → 0 < hunk-size h → Has-line h
 lines-there h p = omega arith
 
 part-line : (sd : Side) (h : Hunk) (r : Span) → r .start < r .end → Has-line (reading sd h r)
@@ -97,7 +97,7 @@ part-line Ancestor h r p = p
 first-line : (n : ℕ) (h : Hunk) → (n ≡ 0 → ⊥) → Has-line (first-lines n h)
 first-line n h z = let r = read-range (h .side) h in part-line (h .side) h (record { start = r .start; end = r .start + n }) (omega (arith, z))
 
-later-line : (n : ℕ) (h : Hunk) → n < size h → Has-line (later-lines n h)
+later-line : (n : ℕ) (h : Hunk) → n < hunk-size h → Has-line (later-lines n h)
 later-line n h p = let r = read-range (h .side) h in part-line (h .side) h (record { start = r .start + n; end = r .end }) (omega arith)
 
 -- the back begins with a line
@@ -105,7 +105,7 @@ abbrev Begins : List Hunk → Type 0
 Begins [] = Unit {0}
 Begins (h ∷ hs) = Has-line h
 
-begins-here : (n : ℕ) (h : Hunk) (hs : List Hunk) → n < size h → Begins (cut-here n h hs .behind)
+begins-here : (n : ℕ) (h : Hunk) (hs : List Hunk) → n < hunk-size h → Begins (cut-here n h hs .behind)
 begins-here n h hs p = cond-both (eqb n 0) (record { ahead = []; behind = h ∷ hs }) (record { ahead = first-lines n h ∷ []; behind = later-lines n h ∷ hs }) (λ (c : Cut). Begins (c .behind))
     (λ _. lines-there h (omega arith))
     (λ _. later-line n h p)
@@ -113,10 +113,10 @@ begins-here n h hs p = cond-both (eqb n 0) (record { ahead = []; behind = h ∷ 
 back-begins : (n : ℕ) (hs : List Hunk) → Begins (cut-back n hs .behind)
 back-begins n [] = tt
 back-begins n (h ∷ hs) =
-    let rest = back-begins (n - size h) hs in
-    cond-both (leb (size h) n) (ahead-more h (cut-back (n - size h) hs)) (cut-here n h hs) (λ (c : Cut). Begins (c .behind))
+    let rest = back-begins (n - hunk-size h) hs in
+    cond-both (leb (hunk-size h) n) (ahead-more h (cut-back (n - hunk-size h) hs)) (cut-here n h hs) (λ (c : Cut). Begins (c .behind))
     (λ _. rest)
-    (λ e. begins-here n h hs (leb-false (size h) n e))
+    (λ e. begins-here n h hs (leb-false (hunk-size h) n e))
 
 begins-told : (hs : List Hunk) → Begins hs → (h : Hunk) (ys : List Hunk) → hs ≡ h ∷ ys → Has-line h
 begins-told [] b h ys e = let z : _≡_ {A = ℕ} 0 1 = cc in absurd (omega arith)
@@ -125,7 +125,7 @@ begins-told (x ∷ xs) b h ys e = let q : x ≡ h = cc in subst Has-line q b
 -- the front ends in one, where it has as many lines as are asked for
 abbrev sizes : List Hunk → ℕ
 sizes [] = 0
-sizes (h ∷ hs) = size h + sizes hs
+sizes (h ∷ hs) = hunk-size h + sizes hs
 
 -- the last hunk of a list behind h has a line
 abbrev Ends : Hunk → List Hunk → Type 0
@@ -140,20 +140,20 @@ pub record Ending-in (n : ℕ) (hs : List Hunk) : Type 0 where
   pub none : n ≡ 0 → hs ≡ []
   pub some : 0 < n → (h : Hunk) × (xs : List Hunk) × (hs ≡ h ∷ xs) × Ends h xs
 
-more-ends : (n : ℕ) (h : Hunk) (hs : List Hunk) → 0 < n → size h ≤ n → Ending-in (n - size h) hs → Ending-in n (h ∷ hs)
-more-ends n h hs p q r = record { none = λ z. absurd (omega arith); some = λ _. (h, hs, refl, by (leb (size h) (n - 1)) refl) }
+more-ends : (n : ℕ) (h : Hunk) (hs : List Hunk) → 0 < n → hunk-size h ≤ n → Ending-in (n - hunk-size h) hs → Ending-in n (h ∷ hs)
+more-ends n h hs p q r = record { none = λ z. absurd (omega arith); some = λ _. (h, hs, refl, by (leb (hunk-size h) (n - 1)) refl) }
   where
     longer : (x : Hunk) × (xs : List Hunk) × (hs ≡ x ∷ xs) × Ends x xs → Ends h hs
     longer (x, xs, w, d) = subst (Ends h) (sym w) d
 
-    by : (b : Bool) → leb (size h) (n - 1) ≡ b → Ends h hs
-    by true e = let le = leb-true (size h) (n - 1) e in longer (r .some (omega arith))
+    by : (b : Bool) → leb (hunk-size h) (n - 1) ≡ b → Ends h hs
+    by true e = let le = leb-true (hunk-size h) (n - 1) e in longer (r .some (omega arith))
     by false e =
-        let lt = leb-false (size h) (n - 1) e in
+        let lt = leb-false (hunk-size h) (n - 1) e in
         let l : Has-line h = lines-there h (omega arith) in
         subst (Ends h) (sym (r .none (omega arith))) l
 
-here-ends : (n : ℕ) (h : Hunk) (hs : List Hunk) → ((n ≡ 0 → ⊥) → n < size h) → Ending-in n (cut-here n h hs .ahead)
+here-ends : (n : ℕ) (h : Hunk) (hs : List Hunk) → ((n ≡ 0 → ⊥) → n < hunk-size h) → Ending-in n (cut-here n h hs .ahead)
 here-ends n h hs f = cond-both (eqb n 0) (record { ahead = []; behind = h ∷ hs }) (record { ahead = first-lines n h ∷ []; behind = later-lines n h ∷ hs }) (λ (c : Cut). Ending-in n (c .ahead))
     (λ e. let z = eqb-true n 0 e in record { none = λ _. refl; some = λ p. absurd (omega arith) })
     (λ e. let z : n ≡ 0 → ⊥ = λ q. true≢false (sym (ap (λ (i : ℕ). eqb i 0) q) ∙ e) in record { none = λ q. absurd (z q); some = λ p. (first-lines n h, [], refl, first-line n h z) })
@@ -161,13 +161,13 @@ here-ends n h hs f = cond-both (eqb n 0) (record { ahead = []; behind = h ∷ hs
 front-ends : (n : ℕ) (hs : List Hunk) → n ≤ sizes hs → Ending-in n (cut-front n hs .ahead)
 front-ends n [] p = record { none = λ _. refl; some = λ q. absurd (omega arith) }
 front-ends n (h ∷ hs) p =
-    let rest = front-ends (n - size h) hs (omega arith) in
-    cond-both (leb (size h) n && not (eqb n 0)) (ahead-more h (cut-front (n - size h) hs)) (cut-here n h hs) (λ (c : Cut). Ending-in n (c .ahead))
+    let rest = front-ends (n - hunk-size h) hs (omega arith) in
+    cond-both (leb (hunk-size h) n && not (eqb n 0)) (ahead-more h (cut-front (n - hunk-size h) hs)) (cut-here n h hs) (λ (c : Cut). Ending-in n (c .ahead))
     (λ e.
-    let q = and-parts (leb (size h) n) (not (eqb n 0)) e in
-    let le = leb-true (size h) n (q .0) in
+    let q = and-parts (leb (hunk-size h) n) (not (eqb n 0)) e in
+    let le = leb-true (hunk-size h) n (q .0) in
     let z : n ≡ 0 → ⊥ = λ w. false≢true (sym (not-true (eqb n 0) (q .1)) ∙ ap (λ (i : ℕ). eqb i 0) w) in
-    more-ends n h (cut-front (n - size h) hs .ahead) (omega (arith, z)) le rest)
+    more-ends n h (cut-front (n - hunk-size h) hs .ahead) (omega (arith, z)) le rest)
     (λ e. here-ends n h hs (not-whole n h e))
 
 ends-last : (h : Hunk) (hs xs : List Hunk) (g : Hunk) → Ends h hs → h ∷ hs ≡ xs ++ (g ∷ []) → Has-line g
@@ -283,7 +283,7 @@ no-lines-there s (h ∷ hs) w f e =
     let p : Has-line h = f h hs refl in
     let n = ap length e ∙ refl in
     let q = length-append (hunk-lines s h) (side-lines s hs) in
-    let x : length (hunk-lines s h) ≡ size h = w .0 in
+    let x : length (hunk-lines s h) ≡ hunk-size h = w .0 in
     absurd (omega arith)
 
 pub no-back-left : (s : Sheets) (k : Cluster) (b : Bool) (d : Sides) → Led s k b d → side-lines s (d .back) ≡ [] → d .back ≡ []

@@ -68,6 +68,7 @@ module _ (f : Side → Bool) (no : f Ancestor ≡ false) where
 
 pub hunk-laws : (s : Sheets) → Hunk-laws s
 hunk-laws s = record {
+  sheets = (refl, refl, refl);
   current = λ h e p q. subst (Range-of (s .current) (h .after .start) (h .after .end)) (sym (by-side s h Current e)) (range-of (s .current) (h .after .start) (h .after .end) p q);
   other = λ h e p q. subst (Range-of (s .other) (h .after .start) (h .after .end)) (sym (by-side s h Other e)) (range-of (s .other) (h .after .start) (h .after .end) p q);
   ancestor = λ h e p q. subst (Range-of (s .ancestor) (h .before .start) (h .before .end)) (sym (by-side s h Ancestor e)) (range-of (s .ancestor) (h .before .start) (h .before .end) p q);

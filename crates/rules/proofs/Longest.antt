@@ -20,7 +20,7 @@ use Rattle.rules.specs.Hunks.{Sheets, side-lines, opposite}
 use Rattle.rules.specs.Walk.{is-current, is-other, picked}
 use Rattle.rules.specs.Groups.{Cluster, members, from, to}
 use Rattle.rules.specs.Filling.{stretch, filled, side-of, ours-of, theirs-of}
-use Rattle.rules.specs.Contraction.{size, reading, first-lines, later-lines, Cut, ahead-more, cut-here, cut-front, cut-back, contracted}
+use Rattle.rules.specs.Contraction.{hunk-size, reading, first-lines, later-lines, Cut, ahead-more, cut-here, cut-front, cut-back, contracted}
 use Rattle.rules.specs.Sides.{Sides, contracted-by, contracted-sides}
 use Rattle.rules.specs.ContractionLaws.{Straight, Not-facing}
 use Rattle.rules.proofs.Shared.{same-line-refl, front-sym, front-le, end-sym}
@@ -86,14 +86,14 @@ module _ (P : Hunk → Type 0) (part : (h : Hunk) (r : Span) → P h → P (read
   front-all : (n : ℕ) (hs : List Hunk) → All P hs → Both (cut-front n hs)
   front-all n [] p = (tt, tt)
   front-all n (h ∷ hs) p =
-      let r = front-all (n - size h) hs (p .1) in
-      cond-both (leb (size h) n && not (eqb n 0)) (ahead-more h (cut-front (n - size h) hs)) (cut-here n h hs) Both (λ _. ((p .0, r .0), r .1)) (λ _. here-all n h hs (p .0) (p .1))
+      let r = front-all (n - hunk-size h) hs (p .1) in
+      cond-both (leb (hunk-size h) n && not (eqb n 0)) (ahead-more h (cut-front (n - hunk-size h) hs)) (cut-here n h hs) Both (λ _. ((p .0, r .0), r .1)) (λ _. here-all n h hs (p .0) (p .1))
 
   back-all : (n : ℕ) (hs : List Hunk) → All P hs → Both (cut-back n hs)
   back-all n [] p = (tt, tt)
   back-all n (h ∷ hs) p =
-      let r = back-all (n - size h) hs (p .1) in
-      cond-both (leb (size h) n) (ahead-more h (cut-back (n - size h) hs)) (cut-here n h hs) Both (λ _. ((p .0, r .0), r .1)) (λ _. here-all n h hs (p .0) (p .1))
+      let r = back-all (n - hunk-size h) hs (p .1) in
+      cond-both (leb (hunk-size h) n) (ahead-more h (cut-back (n - hunk-size h) hs)) (cut-here n h hs) Both (λ _. ((p .0, r .0), r .1)) (λ _. here-all n h hs (p .0) (p .1))
 
   lead-all : (s : Sheets) (a b : List Hunk) → All P a → All P (contracted s a b .front) × All P (contracted s a b .lead) × All P (contracted s a b .back)
   lead-all s a b pa =

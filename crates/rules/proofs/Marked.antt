@@ -2,15 +2,16 @@
 use Prim.Native.Nat.{ℕ}
 use native.Mathlib.Omega.{arith}
 use mathlib.Core.Path.{_≡_, refl, sym, ap, subst, subst₂, _∙_}
-use mathlib.Core.Bool.{Bool, true, false, cond, _&&_}
+use mathlib.Core.Bool.{Bool, true, false, cond, _&&_, not}
 use mathlib.Core.List.{List, [], _∷_, _++_, append-assoc, append-nil}
 use Rattle.std.specs.declared.option.Option.{Option}
 use Rattle.std.specs.declared.option.Option.the-variants.{None, Some}
-use lib.ListN.{length, drop, getD, replicate}
+use lib.Seq.{getD-at}
+use lib.ListN.{length, drop, getD, replicate, length-append}
 use lib.Dec.{eqb}
 use Rattle.std.specs.shelf.Lists.{All}
 use Rattle.std.proofs.shelf.Elements.{all-append}
-use Rattle.std.proofs.shelf.Tests.{true≢false, false≢true, cond-both, not-true, eqb-false}
+use Rattle.std.proofs.shelf.Tests.{true≢false, false≢true, cond-both, not-true, eqb-false, ne-eqb}
 use Rattle.rules.specs.declared.ending.Ending.{Ending}
 use Rattle.rules.specs.declared.ending.Ending.the-variants.{Newline, ReturnNewline}
 use Rattle.rules.specs.declared.hunk.Hunk.{Hunk}
@@ -377,9 +378,19 @@ union-bare s d =
     (cond-both (line-left s (d .left) (d .right)) lft [] (All Bare) (λ _. (tt, all-append Bare eo (close cl ∷ et) (each-bare ours refl (side-lines s (d .left))) (tt, each-bare theirs refl (side-lines s (d .right))))) (λ _. tt))
     (all-append Bare bc eb (close-bare s d (d .back)) (each-bare common refl (side-lines s (d .back)))))
 
+-- an open line, by its last byte
+open-last : (o : Bool) (xs : List ℕ) (b : ℕ) → left-open o (xs ++ (b ∷ [])) ≡ not (eqb b 10)
+open-last o [] b = refl
+open-last o (x ∷ xs) b = let n = length-append xs (b ∷ []) in ap (λ (c : ℕ). not (eqb c 10)) (getD-at (x ∷ xs) b [] 0 (length (xs ++ (b ∷ []))) (omega arith))
+
 pub marker-laws : (s : Sheets) (cs os : List Hunk) → Kept s cs os → Marker-laws s cs os
 marker-laws s cs os p = record {
   keep = λ st n l. formed st n l s cs os p;
+  open-none = λ o. refl;
+  open-closed = λ o xs. open-last o xs 10;
+  open-left = λ o xs b f. open-last o xs b ∙ rw (ne-eqb b 10 f);
+  base-styles = (refl, refl, refl);
+  contracting-styles = (refl, refl, refl);
   closes = closes s cs os;
   ours-unmarked = λ l. unmarked ResolveWithOurs s l (λ since k. each-bare common refl (side-lines s (ours-of k))) cs os;
   theirs-unmarked = λ l. unmarked ResolveWithTheirs s l (λ since k. each-bare common refl (side-lines s (theirs-of k))) cs os;

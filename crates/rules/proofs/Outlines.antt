@@ -26,7 +26,7 @@ use Rattle.rules.specs.Steps.{Step, put, close, each, pieces-of, left-open}
 use Rattle.rules.specs.Markers.{Labels, label-steps, marker-steps}
 use Rattle.rules.specs.Blocks.{blocked, base-steps, block-steps, agreed-steps, keep-steps, marker-ending}
 use Rattle.rules.specs.Rendering.{group-steps, cluster-steps, steps-from, rendering}
-use Rattle.rules.specs.Outline.{Item, line, block, Part, outside, in-o, in-b, in-t, more-pieces, Reading, start, given-by, read-kind, read-on, outline}
+use Rattle.rules.specs.Outline.{Item, line, block, Part, reading-common, reading-ours, reading-base, reading-theirs, more-pieces, Reading, start, given-by, read-kind, read-on, outline}
 use Rattle.rules.specs.GroupOutline.{drawn-in, base-part, group-items, cluster-items, items}
 use Rattle.rules.specs.Order.{Kept}
 use Rattle.rules.proofs.Contracting.{Sides-lines, sides-lines, left-is}
@@ -35,7 +35,7 @@ use Rattle.rules.proofs.Shared.{parts-join, equal-middle, same-lines-true}
 use Rattle.rules.proofs.Steps.{agreed-lines}
 
 abbrev at : Part → ℕ → List Line → List Line → List Line → Reading
-at p n o b t = record { part = p; skip = n; o = o; b = b; t = t }
+at p n o b t = record { part = p; skip = n; ours = o; base = b; theirs = t }
 
 module _ (st : ConflictStyle) (l : Labels) where
   abbrev read-steps : Reading → List Step → List Item
@@ -84,39 +84,39 @@ module _ (st : ConflictStyle) (l : Labels) where
   tail-lead None nl p o b t rest = refl
   tail-lead (Some x) nl p o b t rest = refl
 
-  open-lead : (c n : ℕ) (nl : Ending) → Leads start (marker-steps c n (l .current) nl) [] (at in-o 0 [] [] [])
-  open-lead c n nl rest = tail-lead (l .current) nl in-o [] [] [] rest
+  open-lead : (c n : ℕ) (nl : Ending) → Leads start (marker-steps c n (l .current) nl) [] (at reading-ours 0 [] [] [])
+  open-lead c n nl rest = tail-lead (l .current) nl reading-ours [] [] [] rest
 
-  end-lead : (c n : ℕ) (nl : Ending) (o b t : List Line) → Leads (at in-t 0 o b t) (marker-steps c n (l .other) nl) (block o b t ∷ []) start
-  end-lead c n nl o b t rest = ap (λ (is : List Item). block o b t ∷ is) (tail-lead (l .other) nl outside [] [] [] rest)
+  end-lead : (c n : ℕ) (nl : Ending) (o b t : List Line) → Leads (at reading-theirs 0 o b t) (marker-steps c n (l .other) nl) (block o b t ∷ []) start
+  end-lead c n nl o b t rest = ap (λ (is : List Item). block o b t ∷ is) (tail-lead (l .other) nl reading-common [] [] [] rest)
 
-  mid-lead : (c n : ℕ) (nl : Ending) (o b t : List Line) → Leads (at in-b 0 o b t) (marker-steps c n None nl) [] (at in-t 0 o b t)
+  mid-lead : (c n : ℕ) (nl : Ending) (o b t : List Line) → Leads (at reading-base 0 o b t) (marker-steps c n None nl) [] (at reading-theirs 0 o b t)
   mid-lead c n nl o b t rest = refl
 
 -- what stands between the ours part and the theirs part
 split-lead : (st : ConflictStyle) (l : Labels) (p : Part) (n : ℕ) (nl : Ending) (o b : List Line) (tail : List Step) (js : List Item)
-    → Leads st l (at p 0 o b []) (marker-steps 61 n None nl) [] (at in-t 0 o b []) → Leads st l (at in-t 0 o b []) tail js start → Leads st l (at p 0 o b []) (marker-steps 61 n None nl ++ tail) js start
-split-lead st l p n nl o b tail js m q = leads-on st l (at p 0 o b []) (at in-t 0 o b []) start (marker-steps 61 n None nl) tail [] js m q
+    → Leads st l (at p 0 o b []) (marker-steps 61 n None nl) [] (at reading-theirs 0 o b []) → Leads st l (at reading-theirs 0 o b []) tail js start → Leads st l (at p 0 o b []) (marker-steps 61 n None nl ++ tail) js start
+split-lead st l p n nl o b tail js m q = leads-on st l (at p 0 o b []) (at reading-theirs 0 o b []) start (marker-steps 61 n None nl) tail [] js m q
 
 based-lead : (st : ConflictStyle) (l : Labels) (n : ℕ) (nl nb : Ending) (o b : List Line) (tail : List Step) (js : List Item)
-    → Leads st l (at in-o 0 o [] []) (marker-steps 124 n (l .ancestor) nb) [] (at in-b 0 o [] [])
-    → Leads st l (at in-t 0 o b []) tail js start
-    → Leads st l (at in-o 0 o [] []) ((marker-steps 124 n (l .ancestor) nb ++ each base b) ++ (marker-steps 61 n None nl ++ tail)) js start
+    → Leads st l (at reading-ours 0 o [] []) (marker-steps 124 n (l .ancestor) nb) [] (at reading-base 0 o [] [])
+    → Leads st l (at reading-theirs 0 o b []) tail js start
+    → Leads st l (at reading-ours 0 o [] []) ((marker-steps 124 n (l .ancestor) nb ++ each base b) ++ (marker-steps 61 n None nl ++ tail)) js start
 based-lead st l n nl nb o b tail js m q =
-    leads-on st l (at in-o 0 o [] []) (at in-b 0 o b []) start (marker-steps 124 n (l .ancestor) nb ++ each base b) (marker-steps 61 n None nl ++ tail) [] js
-    (leads-on st l (at in-o 0 o [] []) (at in-b 0 o [] []) (at in-b 0 o b []) (marker-steps 124 n (l .ancestor) nb) (each base b) [] [] m (base-lead st l in-b 0 o [] [] b))
-    (split-lead st l in-b n nl o b tail js (mid-lead st l 61 n nl o b []) q)
+    leads-on st l (at reading-ours 0 o [] []) (at reading-base 0 o b []) start (marker-steps 124 n (l .ancestor) nb ++ each base b) (marker-steps 61 n None nl ++ tail) [] js
+    (leads-on st l (at reading-ours 0 o [] []) (at reading-base 0 o [] []) (at reading-base 0 o b []) (marker-steps 124 n (l .ancestor) nb) (each base b) [] [] m (base-lead st l reading-base 0 o [] [] b))
+    (split-lead st l reading-base n nl o b tail js (mid-lead st l 61 n nl o b []) q)
 
 between-lead : (st : ConflictStyle) (l : Labels) (s : Sheets) (n : ℕ) (k : Cluster) (nl : Ending) (o : List Line) (tail : List Step) (js : List Item)
-    → Leads st l (at in-t 0 o (base-part st s k) []) tail js start
-    → Leads st l (at in-o 0 o [] []) (base-steps st s n (l .ancestor) (from k) (to k) ++ (marker-steps 61 n None nl ++ tail)) js start
-between-lead Merge l s n k nl o tail js q = split-lead Merge l in-o n nl o [] tail js (λ rest. refl) q
+    → Leads st l (at reading-theirs 0 o (base-part st s k) []) tail js start
+    → Leads st l (at reading-ours 0 o [] []) (base-steps st s n (l .ancestor) (from k) (to k) ++ (marker-steps 61 n None nl ++ tail)) js start
+between-lead Merge l s n k nl o tail js q = split-lead Merge l reading-ours n nl o [] tail js (λ rest. refl) q
 between-lead Diff3 l s n k nl o tail js q =
     let nb = or-newline (ending-of s (stretch (from k) (to k))) in
-    based-lead Diff3 l n nl nb o (base-lines s k) tail js (λ rest. tail-lead Diff3 l (l .ancestor) nb in-b o [] [] rest) q
+    based-lead Diff3 l n nl nb o (base-lines s k) tail js (λ rest. tail-lead Diff3 l (l .ancestor) nb reading-base o [] [] rest) q
 between-lead ZealousDiff3 l s n k nl o tail js q =
     let nb = or-newline (ending-of s (stretch (from k) (to k))) in
-    based-lead ZealousDiff3 l n nl nb o (base-lines s k) tail js (λ rest. tail-lead ZealousDiff3 l (l .ancestor) nb in-b o [] [] rest) q
+    based-lead ZealousDiff3 l n nl nb o (base-lines s k) tail js (λ rest. tail-lead ZealousDiff3 l (l .ancestor) nb reading-base o [] [] rest) q
 
 module _ (st : ConflictStyle) (l : Labels) (s : Sheets) (n : ℕ) (k : Cluster) where
   block-lead : (nl : Ending) (d : Sides) → Leads st l start (block-steps st s n l nl (from k) (to k) (d .left) (d .right)) (block (side-lines s (d .left)) (base-part st s k) (side-lines s (d .right)) ∷ []) start
@@ -131,10 +131,10 @@ module _ (st : ConflictStyle) (l : Labels) (s : Sheets) (n : ℕ) (k : Cluster) 
       let et = each theirs ys in
       let sb = base-steps st s n (l .ancestor) (from k) (to k) in
       let is : List Item = block xs bs ys ∷ [] in
-      leads-on st l start (at in-o 0 [] [] []) start m60 (eo ++ (sb ++ (m61 ++ (et ++ m62)))) [] is (open-lead st l 60 n nl)
-      (leads-on st l (at in-o 0 [] [] []) (at in-o 0 xs [] []) start eo (sb ++ (m61 ++ (et ++ m62))) [] is (ours-lead st l in-o 0 [] [] [] xs)
+      leads-on st l start (at reading-ours 0 [] [] []) start m60 (eo ++ (sb ++ (m61 ++ (et ++ m62)))) [] is (open-lead st l 60 n nl)
+      (leads-on st l (at reading-ours 0 [] [] []) (at reading-ours 0 xs [] []) start eo (sb ++ (m61 ++ (et ++ m62))) [] is (ours-lead st l reading-ours 0 [] [] [] xs)
       (between-lead st l s n k nl xs (et ++ m62) is
-      (leads-on st l (at in-t 0 xs bs []) (at in-t 0 xs bs ys) start et m62 [] is (theirs-lead st l in-t 0 xs bs [] ys) (end-lead st l 62 n nl xs bs ys))))
+      (leads-on st l (at reading-theirs 0 xs bs []) (at reading-theirs 0 xs bs ys) start et m62 [] is (theirs-lead st l reading-theirs 0 xs bs [] ys) (end-lead st l 62 n nl xs bs ys))))
 
   either-lead : (r r′ : Reading) (b : Bool) (x y : List Step) (u v : List Item) → Leads st l r x u r′ → Leads st l r y v r′ → Leads st l r (cond b x y) (cond b u v) r′
   either-lead r r′ true x y u v p q = p

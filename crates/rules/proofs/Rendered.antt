@@ -9,6 +9,7 @@ use Rattle.std.specs.declared.result.Result.{Result}
 use Rattle.std.specs.declared.result.Result.the-variants.{Ok, Err}
 use lib.ListN.{length, length-append}
 use lib.Dec.{leb, eqb}
+use Rattle.std.proofs.shelf.Lists.{append-nil, append-assoc}
 use Rattle.std.proofs.shelf.Tests.{leb-true, le-leb, eqb-true, eq-eqb, and-parts, and-from}
 use Rattle.rules.specs.declared.hunk.Side.the-variants.{Current, Other, Ancestor}
 use Rattle.rules.specs.declared.mode.Conflict as modes
@@ -132,12 +133,19 @@ made-more : {V : Type 0} (rule : V → Chunk → V) (v : V) (cs : List Chunk) (c
 made-more rule v [] c = refl
 made-more rule v (x ∷ xs) c = made-more rule (rule v x) xs c
 
+bytes-more : (cs : List Chunk) (c : Chunk) → all-bytes (cs ++ (c ∷ [])) ≡ all-bytes cs ++ c .bytes
+bytes-more [] c = append-nil (c .bytes)
+bytes-more (x ∷ xs) c = ap (λ (r : List ℕ). x .bytes ++ r) (bytes-more xs c) ∙ sym (append-assoc (x .bytes) (all-bytes xs) (c .bytes))
+
 pub render-rules : (V : Type 0) (rule : V → Chunk → V) (fresh : V) (t : Held) (s : Sheets) → Render-rules V rule fresh t s
 render-rules V rule fresh t s = record {
   size-told = λ m l. shared-told t s m l None (needed t s m l) (λ y. y ≡ Ok (needed t s m l)) refl;
   render-told = render-told t s;
   given = λ a k v e. ap (λ (q : Option RenderRefusal). changed q (filled-sink rule fresh (rendering (a .mode) s (a .labels) (t .current) (t .other))) k) (accepted (render-questions t s a) (verdict (a .mode) s (t .current) (t .other)) v e);
   left = λ a k r e. turned-down (render-questions t s a) (verdict (a .mode) s (t .current) (t .other)) r (filled-sink rule fresh (rendering (a .mode) s (a .labels) (t .current) (t .other))) k e;
+  length-told = λ m l. measured (rendering m s l (t .current) (t .other));
+  bytes-none = refl;
+  bytes-more = bytes-more;
   measured = measured;
   made-none = refl;
   made-more = made-more rule fresh;

@@ -25,7 +25,7 @@ use Rattle.rules.specs.Limits.{max-lines, max-hunks}
 use Rattle.rules.specs.Questions.{ask, answered, changed, Question}
 use Rattle.rules.specs.Refusals.{table-number, table-place, Table-refuses}
 use Rattle.rules.specs.Tables.{Held, opened, held-of, count-of, holding, has-hunks, within, changes, follows, last-from, last-of, without-last, open-questions, open-answer, open-after, enter-questions, enter-answer, enter-after, withdraw-questions, withdraw-after}
-use Rattle.rules.specs.TableLaws.{Two-sided, Within, Not-empty, Behind-last, May-enter, Enter-law, Withdraw-law, Open-told, Withdraw-told, Tables-follow-rules}
+use Rattle.rules.specs.TableLaws.{Two-sided, Within, Not-empty, Behind-last, May-enter, Enter-law, Withdraw-law, Open-told, Withdraw-told, Tables-follow-rules, Holds}
 use Rattle.rules.proofs.Asking.{yes-then, then-yes, question}
 
 pub within-says : (n : ℕ) (r : Span) → within n r ≡ true → Within n r
@@ -283,8 +283,42 @@ nth-past [] n le = refl
 nth-past (h ∷ hs) zero le = absurd (omega arith)
 nth-past (h ∷ hs) (suc n) le = nth-past hs n (omega arith)
 
+-- a table with other hunks of one side
+holds : (t : Held) (side : Side) (hs : List Hunk) → Two-sided side → Holds t side hs (holding t side hs)
+holds t Current hs two = record { these = refl; other-side = apart; same-counts = same }
+  where
+    apart : (facing : Side) → (facing ≡ Current → ⊥) → held-of (holding t Current hs) facing ≡ held-of t facing
+    apart Current f = absurd (f refl)
+    apart Other f = refl
+    apart Ancestor f = refl
+
+    same : (facing : Side) → count-of (holding t Current hs) facing ≡ count-of t facing
+    same Current = refl
+    same Other = refl
+    same Ancestor = refl
+holds t Other hs two = record { these = refl; other-side = apart; same-counts = same }
+  where
+    apart : (facing : Side) → (facing ≡ Other → ⊥) → held-of (holding t Other hs) facing ≡ held-of t facing
+    apart Current f = refl
+    apart Other f = absurd (f refl)
+    apart Ancestor f = refl
+
+    same : (facing : Side) → count-of (holding t Other hs) facing ≡ count-of t facing
+    same Current = refl
+    same Other = refl
+    same Ancestor = refl
+holds t Ancestor hs two = absurd (false≢true (sided-two Ancestor two))
+
+opened-empty : (a c o : ℕ) (side : Side) → held-of (opened a c o) side ≡ []
+opened-empty a c o Current = refl
+opened-empty a c o Other = refl
+opened-empty a c o Ancestor = refl
+
 pub follow-rules : Tables-follow-rules
 follow-rules t = record {
+  holds = holds t;
+  opened-counts = λ a c o. (refl, refl, refl);
+  opened-empty = opened-empty;
   enters = enter-law t;
   withdraws = withdraw-law t;
   opens = opens t;

@@ -70,6 +70,8 @@ no-stretch s a b le = rw (le-ltb a b le)
 
 pub ending-laws : (s : Sheets) → Ending-laws s
 ending-laws s = record {
+  newline-bytes = refl;
+  return-bytes = refl;
   no-hunk = refl;
   by-after = λ hs h p. from-last s hs h ∙ rw (has-lines (h .after) p);
   by-before = λ hs h p q. from-last s hs h ∙ rw (has-none (h .after) p, has-lines (h .before) q);

@@ -22,6 +22,7 @@ cases = record {
   cut-ending-in-modes = record { in-merge = (refl, refl); in-diff3 = (refl, refl); in-zealous = (refl, refl); in-ours = (refl, refl); in-theirs = (refl, refl); in-union = (refl, refl) };
   union-front-in-modes = record { in-merge = (refl, refl); in-diff3 = (refl, refl); in-zealous = (refl, refl); in-ours = (refl, refl); in-theirs = (refl, refl); in-union = (refl, refl) };
   union-back-in-modes = record { in-merge = (refl, refl); in-diff3 = (refl, refl); in-zealous = (refl, refl); in-ours = (refl, refl); in-theirs = (refl, refl); in-union = (refl, refl) };
+  equal-starts-in-modes = record { in-merge = (refl, refl); in-diff3 = (refl, refl); in-zealous = (refl, refl); in-ours = (refl, refl); in-theirs = (refl, refl); in-union = (refl, refl) };
   touching-enter-refused = refl;
   later-enter-taken = refl;
 }

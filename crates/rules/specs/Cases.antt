@@ -23,14 +23,14 @@ use Rattle.rules.specs.Verdict.{verdict}
 use Rattle.rules.specs.Tables.{opened, enter-answer, enter-after}
 
 -- The hunk a..b/c..d of a side: a..b in the ancestor, c..d in the side's sheet.
-abbrev pub hunk : Side → ℕ → ℕ → ℕ → ℕ → Hunk
-hunk side a b c d = record { before = record { start = a; end = b }; after = record { start = c; end = d }; side = side }
+abbrev pub hunk-of : Side → ℕ → ℕ → ℕ → ℕ → Hunk
+hunk-of side a b c d = record { before = record { start = a; end = b }; after = record { start = c; end = d }; side = side }
 
 abbrev pub cur : ℕ → ℕ → ℕ → ℕ → Hunk
-cur = hunk Current
+cur = hunk-of Current
 
 abbrev pub oth : ℕ → ℕ → ℕ → ℕ → Hunk
-oth = hunk Other
+oth = hunk-of Other
 
 -- Three sheets, the hunks held, and what is asked of a render.
 pub record Case : Type 0 where
@@ -248,6 +248,16 @@ union-back = record {
   size = 7;
 }
 
+-- At equal starts Current comes first and leads, so that the front is its own. These hunks do not come of a true diff.
+abbrev pub equal-starts : Case
+equal-starts = record {
+  sheets = sheets-of (text-lines (codes "a\nb\nm\n")) (text-lines (codes "e\r\nf")) (text-lines (codes "g\nf"));
+  current = cur 0 1 1 2 ∷ [];
+  other = oth 0 2 1 2 ∷ [];
+  labels = no-labels;
+  size = 7;
+}
+
 pub record Cases : Type 0 where
   pub none-held-in-all : Always none-held (codes "a\nb\n") Complete
   pub adjacent-in-modes : In-modes adjacent
@@ -351,6 +361,13 @@ pub record Cases : Type 0 where
       (gives (codes "p\nb\n") CompleteWithAutoResolvedConflict)
       (gives (codes "u\r\nvb\n") CompleteWithAutoResolvedConflict)
       (gives (codes "p\nu\r\nv\r\nb\n") CompleteWithAutoResolvedConflict)
+  pub equal-starts-in-modes : In-modes equal-starts
+      (gives (codes "f\r\n<<<<<<<\r\nb\n=======\r\n>>>>>>>\r\nm\n") Conflict)
+      (gives (codes "<<<<<<<\nfb\n|||||||\na\nb\n=======\nf\n>>>>>>>\nm\n") Conflict)
+      (gives (codes "f\r\n<<<<<<<\r\nb\n|||||||\na\nb\n=======\r\n>>>>>>>\r\nm\n") Conflict)
+      (gives (codes "fb\nm\n") CompleteWithAutoResolvedConflict)
+      (gives (codes "fm\n") CompleteWithAutoResolvedConflict)
+      (gives (codes "f\r\nb\nm\n") CompleteWithAutoResolvedConflict)
   -- the table: behind 0..1/0..1 a hunk that starts at its end is refused, one that leaves a line between is not
   pub touching-enter-refused : enter-answer (enter-after (opened 2 3 3) (cur 0 1 0 1)) (cur 1 1 1 2) ≡ Err NotBehindLast
   pub later-enter-taken : enter-answer (enter-after (opened 2 3 3) (cur 0 1 0 1)) (cur 2 2 2 3) ≡ Ok 2

@@ -18,8 +18,9 @@ read-range Current h = h .after
 read-range Other h = h .after
 read-range Ancestor h = h .before
 
-abbrev pub size : Hunk → ℕ
-size h = let r = read-range (h .side) h in r .end - r .start
+-- How many lines a hunk has.
+abbrev pub hunk-size : Hunk → ℕ
+hunk-size h = let r = read-range (h .side) h in r .end - r .start
 
 -- A hunk that reads another range: of an Ancestor hunk both ranges change.
 abbrev pub reading : Side → Hunk → Span → Hunk
@@ -42,18 +43,19 @@ pub record Cut : Type 0 where
 abbrev pub ahead-more : Hunk → Cut → Cut
 ahead-more h c = record { ahead = h ∷ c .ahead; behind = c .behind }
 
+-- A cut behind the first n lines of the first hunk.
 abbrev pub cut-here : ℕ → Hunk → List Hunk → Cut
 cut-here n h hs = cond (eqb n 0) (record { ahead = []; behind = h ∷ hs }) (record { ahead = first-lines n h ∷ []; behind = later-lines n h ∷ hs })
 
 -- The first n lines leave: a hunk without lines goes along if one of them follows it.
 abbrev pub cut-front : ℕ → List Hunk → Cut
 cut-front n [] = record { ahead = []; behind = [] }
-cut-front n (h ∷ hs) = cond (leb (size h) n && not (eqb n 0)) (ahead-more h (cut-front (n - size h) hs)) (cut-here n h hs)
+cut-front n (h ∷ hs) = cond (leb (hunk-size h) n && not (eqb n 0)) (ahead-more h (cut-front (n - hunk-size h) hs)) (cut-here n h hs)
 
 -- The first n lines stay: a hunk without lines goes along with the lines behind them only if one precedes it.
 abbrev pub cut-back : ℕ → List Hunk → Cut
 cut-back n [] = record { ahead = []; behind = [] }
-cut-back n (h ∷ hs) = cond (leb (size h) n) (ahead-more h (cut-back (n - size h) hs)) (cut-here n h hs)
+cut-back n (h ∷ hs) = cond (leb (hunk-size h) n) (ahead-more h (cut-back (n - hunk-size h) hs)) (cut-here n h hs)
 
 -- What contraction leaves of the lead side and of the facing side, and what it removed of the lead.
 pub record Contracted : Type 0 where
@@ -62,6 +64,7 @@ pub record Contracted : Type 0 where
   pub facing : List Hunk
   pub back : List Hunk
 
+-- Trailing lines, once the leading ones have left as front.
 abbrev pub trimmed : Sheets → List Hunk → List Hunk → List Hunk → Contracted
 trimmed s front a b =
     let la = side-lines s a in
@@ -71,6 +74,7 @@ trimmed s front a b =
     let cb = cut-back (length lb - n) b in
     record { front = front; lead = ca .ahead; facing = cb .ahead; back = ca .behind }
 
+-- Leading lines, then trailing lines.
 abbrev pub contracted : Sheets → List Hunk → List Hunk → Contracted
 contracted s a b =
     let n = shared-front (side-lines s a) (side-lines s b) in

@@ -9,11 +9,14 @@ use Rattle.rules.specs.declared.hunk.Hunk.{Hunk}
 use Rattle.rules.specs.Lines.{Line}
 use Rattle.rules.specs.Hunks.{Sheets, sheet-of}
 use Rattle.rules.specs.Filling.{stretch}
-use Rattle.rules.specs.Endings.{ending-before, ending-of}
+use Rattle.rules.specs.Endings.{ending-before, ending-of, ending-bytes}
 
 -- The rules of line endings in words. Of a list of hunks the last that has a range which is not empty decides: its after range, in its side's sheet,
 -- or else its before range, in the ancestor.
 pub record Ending-laws (s : Sheets) : Type 0 where
+  -- the bytes of the two endings
+  pub newline-bytes : ending-bytes Newline ≡ 10 ∷ []
+  pub return-bytes : ending-bytes ReturnNewline ≡ 13 ∷ (10 ∷ [])
   pub no-hunk : ending-of s [] ≡ None
   pub by-after : (hs : List Hunk) (h : Hunk) → h .after .start < h .after .end → ending-of s (hs ++ (h ∷ [])) ≡ ending-before (sheet-of s (h .side)) (h .after .end)
   pub by-before : (hs : List Hunk) (h : Hunk) → h .after .end ≤ h .after .start → h .before .start < h .before .end → ending-of s (hs ++ (h ∷ [])) ≡ ending-before (s .ancestor) (h .before .end)

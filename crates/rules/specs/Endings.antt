@@ -1,4 +1,7 @@
--- The line ending that a list of hunks shows.
+-- The line ending that a list of hunks shows. Going back from the last hunk, the first with a non-empty after range (in its side's sheet) or else a
+-- non-empty before range (in the ancestor) decides, by the last line of that range. A line that ends in carriage return and newline shows both bytes,
+-- another line of two bytes or more that ends in newline shows newline, and a line of newline alone shows none. Where the last line lacks its newline,
+-- the second-last byte of the line before it decides. Where there is no such hunk, line or byte, none is shown.
 use Prim.Native.Nat.{ℕ, _-_}
 use mathlib.Core.Bool.{Bool, cond, not}
 use mathlib.Core.List.{List, [], _∷_, reverse}
@@ -24,7 +27,7 @@ by-second-last l = cond (leb 2 (length l)) (Some (cond (eqb (getD l (length l - 
 abbrev pub ends-in-newline : Line → Bool
 ends-in-newline l = eqb (getD l (length l - 1) 0) 10
 
--- The ending shown at the end of a..b in a sheet, b above 0.
+-- By the line before line b of a sheet, b above 0. The line before that one may lie outside the hunk's range.
 abbrev pub ending-before : List Line → ℕ → Option Ending
 ending-before ls b =
     let line = getD ls (b - 1) [] in
@@ -33,7 +36,7 @@ ending-before ls b =
 abbrev pub no-lines : Span → Bool
 no-lines r = leb (r .end) (r .start)
 
--- Over a list from its last hunk back: the first with a range that is not empty decides.
+-- The hunks from the last one back.
 abbrev pub ending-back : Sheets → List Hunk → Option Ending
 ending-back s [] = None
 ending-back s (h ∷ hs) = cond (not (no-lines (h .after))) (ending-before (sheet-of s (h .side)) (h .after .end)) (cond (not (no-lines (h .before))) (ending-before (s .ancestor) (h .before .end)) (ending-back s hs))
@@ -41,6 +44,7 @@ ending-back s (h ∷ hs) = cond (not (no-lines (h .after))) (ending-before (shee
 abbrev pub ending-of : Sheets → List Hunk → Option Ending
 ending-of s hs = ending-back s (reverse hs)
 
+-- The first that is shown, and newline where none is.
 abbrev pub or-else : Option Ending → Option Ending → Option Ending
 or-else None b = b
 or-else (Some e) b = Some e

@@ -15,7 +15,7 @@ use Rattle.rules.specs.Groups.{Cluster, members, from, to}
 abbrev pub stretch : ℕ → ℕ → List Hunk
 stretch a b = cond (ltb a b) (record { before = record { start = a; end = b }; after = record { start = a; end = b }; side = Ancestor } ∷ []) []
 
--- The hunks of one side, with the stretches of a..b outside them.
+-- The hunks of one side in order, with the stretches of a..b outside them; an insertion stands ahead of a stretch that starts with it.
 abbrev pub filled : ℕ → ℕ → List Hunk → List Hunk
 filled a b [] = stretch a b
 filled a b (h ∷ hs) = stretch a (h .before .start) ++ (h ∷ filled (h .before .end) b hs)

@@ -1,4 +1,5 @@
--- The outline of a rendering that keeps conflicts, from the groups alone.
+-- The outline of a rendering that keeps conflicts, from the groups alone: common lines and blocks. A group whose sides agree gives their lines, any
+-- other group a block; outside Diff3 the lines that the sides share at both ends stand outside the block.
 use Prim.Native.Nat.{ℕ}
 use mathlib.Core.Bool.{cond}
 use mathlib.Core.List.{List, [], _∷_, _++_, map}
@@ -12,8 +13,7 @@ use Rattle.rules.specs.Filling.{sides-differ, ours-lines, theirs-lines, base-l
 use Rattle.rules.specs.Sides.{contracts, with-base}
 use Rattle.rules.specs.Outline.{Item, line, block}
 
--- The outline of a rendering that keeps conflicts, from the clusters: common lines and blocks. A group whose sides agree gives their lines,
--- any other group a block; outside Diff3 the lines that the sides share at both ends stand outside the block.
+-- A block with the lines shared at both ends outside.
 abbrev pub drawn-in : List Line → List Line → List Line → List Item
 drawn-in xs b ys = map line (shared-start xs ys) ++ (block (middle xs ys) b (middle ys xs) ∷ map line (shared-end xs ys))
 

@@ -6,7 +6,7 @@ use lib.ListN.{length}
 use Rattle.rules.specs.declared.hunk.Hunk.{Hunk}
 use Rattle.rules.specs.declared.hunk.Side.the-variants.{Current, Other, Ancestor}
 use Rattle.rules.specs.Lines.{Line}
-use Rattle.rules.specs.Hunks.{Sheets, hunk-lines, side-lines}
+use Rattle.rules.specs.Hunks.{Sheets, hunk-lines, side-lines, sheet-of}
 use Rattle.rules.specs.Walk.{currents, others}
 use Rattle.rules.specs.Groups.{from, to, Cluster, members}
 use Rattle.rules.specs.Filling.{ours-lines, ours-of, theirs-lines, theirs-of}
@@ -21,6 +21,8 @@ pub record Range-of (ls : List Line) (a b : ℕ) (r : List Line) : Type 0 where
   pub ends : length ahead + length r ≡ b
 
 pub record Hunk-laws (s : Sheets) : Type 0 where
+  -- a side names its sheet
+  pub sheets : (sheet-of s Current ≡ s .current) × (sheet-of s Other ≡ s .other) × (sheet-of s Ancestor ≡ s .ancestor)
   -- a hunk stands for its after range in its side's sheet, an Ancestor hunk for its before range in the ancestor
   pub current : (h : Hunk) → h .side ≡ Current → h .after .start ≤ h .after .end → h .after .end ≤ length (s .current) → Range-of (s .current) (h .after .start) (h .after .end) (hunk-lines s h)
   pub other : (h : Hunk) → h .side ≡ Other → h .after .start ≤ h .after .end → h .after .end ≤ length (s .other) → Range-of (s .other) (h .after .start) (h .after .end) (hunk-lines s h)

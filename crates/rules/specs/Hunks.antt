@@ -18,6 +18,7 @@ pub record Sheets : Type 0 where
 abbrev pub sheets-of : List Line → List Line → List Line → Sheets
 sheets-of a c o = record { ancestor = a; current = c; other = o }
 
+-- The sheet that a side names.
 abbrev pub sheet-of : Sheets → Side → List Line
 sheet-of s Current = s .current
 sheet-of s Other = s .other
@@ -32,10 +33,12 @@ lines-by s Ancestor h = between (s .ancestor) (h .before .start) (h .before .end
 abbrev pub hunk-lines : Sheets → Hunk → List Line
 hunk-lines s h = lines-by s (h .side) h
 
+-- The lines of a list of hunks, in order.
 abbrev pub side-lines : Sheets → List Hunk → List Line
 side-lines s [] = []
 side-lines s (h ∷ hs) = hunk-lines s h ++ side-lines s hs
 
+-- Current and Other are opposite.
 abbrev pub opposite : Side → Side → Bool
 opposite Current Current = false
 opposite Current Other = true

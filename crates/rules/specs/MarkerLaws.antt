@@ -13,12 +13,13 @@ use Rattle.rules.specs.declared.hunk.Hunk.{Hunk}
 use Rattle.rules.specs.declared.mode.Conflict as modes
 use Rattle.rules.specs.declared.mode.Conflict.the-variants.{Keep, ResolveWithOurs, ResolveWithTheirs, ResolveWithUnion}
 use Rattle.rules.specs.declared.mode.ConflictStyle.{ConflictStyle}
+use Rattle.rules.specs.declared.mode.ConflictStyle.the-variants.{Merge, Diff3, ZealousDiff3}
 use Rattle.rules.specs.Lines.{Line}
 use Rattle.rules.specs.Hunks.{Sheets}
 use Rattle.rules.specs.Walk.{walk}
 use Rattle.rules.specs.Groups.{Cluster, clusters, from, to, is-group}
 use Rattle.rules.specs.Filling.{stretch, sides-differ}
-use Rattle.rules.specs.Sides.{with-base, sides-in}
+use Rattle.rules.specs.Sides.{with-base, sides-in, contracts}
 use Rattle.rules.specs.Endings.{ending-bytes, ending-of}
 use Rattle.rules.specs.Pieces.{Kind, common, ours, base, theirs, marker, ending, Chunk, all-bytes}
 use Rattle.rules.specs.Steps.{left-open}
@@ -136,6 +137,13 @@ Unmarked c = is-marker (c .kind) ≡ false
 
 pub record Marker-laws (s : Sheets) (cs os : List Hunk) : Type 0 where
   pub keep : (st : ConflictStyle) (n : ℕ) (l : Labels) → Form st n l (marker-endings st s 0 (clusters (walk cs os))) out false (rendering (Keep st n) s l cs os)
+  -- after bytes a line is open exactly when the last is not a newline
+  pub open-none : (o : Bool) → left-open o [] ≡ o
+  pub open-closed : (o : Bool) (xs : List ℕ) → left-open o (xs ++ (10 ∷ [])) ≡ false
+  pub open-left : (o : Bool) (xs : List ℕ) (b : ℕ) → (b ≡ 10 → ⊥) → left-open o (xs ++ (b ∷ [])) ≡ true
+  -- the styles that have a base, and those that contract
+  pub base-styles : (with-base Merge ≡ false) × (with-base Diff3 ≡ true) × (with-base ZealousDiff3 ≡ true)
+  pub contracting-styles : (contracts Merge ≡ true) × (contracts Diff3 ≡ false) × (contracts ZealousDiff3 ≡ true)
   pub closes : (m : modes.Conflict) (l : Labels) (ps qs : List Chunk) (c : Chunk) → rendering m s l cs os ≡ ps ++ (c ∷ qs) → c .kind ≡ ending → Closes ps c
   pub ours-unmarked : (l : Labels) → All Unmarked (rendering ResolveWithOurs s l cs os)
   pub theirs-unmarked : (l : Labels) → All Unmarked (rendering ResolveWithTheirs s l cs os)

@@ -18,6 +18,7 @@ pub record Labels : Type 0 where
 abbrev pub labels-of : Option (List ℕ) → Option (List ℕ) → Option (List ℕ) → Labels
 labels-of a c o = record { ancestor = a; current = c; other = o }
 
+-- A space and the label.
 abbrev pub label-steps : Option (List ℕ) → List Step
 label-steps None = []
 label-steps (Some l) = put (record { kind = marker; bytes = 32 ∷ [] }) ∷ (put (record { kind = marker; bytes = l }) ∷ [])

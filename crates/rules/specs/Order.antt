@@ -8,8 +8,8 @@ use Rattle.rules.specs.declared.hunk.Side.{Side}
 use Rattle.rules.specs.declared.hunk.Side.the-variants.{Current, Other}
 use Rattle.rules.specs.Hunks.{Sheets}
 
--- What a hunk table keeps of one side's hunks, for an ancestor of na lines and a sheet of ns lines:
--- their side, ranges in order and within the sheets, a gap in the ancestor between neighbours.
+-- Of one side's hunks, for an ancestor of na lines and a sheet of ns lines: the first starts at line b of the ancestor or later, and at line a of the
+-- sheet or later.
 abbrev pub In-order : Side → ℕ → ℕ → ℕ → ℕ → List Hunk → Type 0
 In-order side na ns b a [] = Unit {0}
 In-order side na ns b a (h ∷ hs) =

@@ -44,67 +44,71 @@ lines-kept f (c ∷ cs) = cond (f (c .kind)) (c .bytes ∷ lines-kept f cs) (lin
 abbrev pub all-lines : List Chunk → List Line
 all-lines = lines-kept reads-as-line
 
--- The outline of a Keep rendering, read off its pieces.
+-- An outline is a list of common lines and blocks.
 pub data Item : Type 0 where
   line : Line → Item
   block : (o b t : List Line) → Item
 
+-- The part of a rendering that is being read.
 pub data Part : Type 0 where
-  outside : Part
-  in-o : Part
-  in-b : Part
-  in-t : Part
+  reading-common : Part
+  reading-ours : Part
+  reading-base : Part
+  reading-theirs : Part
 
 -- How many pieces of a marker follow its first.
 abbrev pub more-pieces : Option (List ℕ) → ℕ
 more-pieces None = 1
 more-pieces (Some l) = 3
 
+-- Where the reading stands: in which part, how many pieces of a marker are still to come, and the lines of the block so far.
 pub record Reading : Type 0 where
   pub part : Part
   pub skip : ℕ
-  pub o : List Line
-  pub b : List Line
-  pub t : List Line
+  pub ours : List Line
+  pub base : List Line
+  pub theirs : List Line
 
 abbrev pub start : Reading
-start = record { part = outside; skip = 0; o = []; b = []; t = [] }
+start = record { part = reading-common; skip = 0; ours = []; base = []; theirs = [] }
 
+-- A marker's first piece leads to the next part, and its other pieces are passed over.
 abbrev pub next-part : ConflictStyle → Part → Part
-next-part st outside = in-o
-next-part st in-o = cond (with-base st) in-b in-t
-next-part st in-b = in-t
-next-part st in-t = outside
+next-part st reading-common = reading-ours
+next-part st reading-ours = cond (with-base st) reading-base reading-theirs
+next-part st reading-base = reading-theirs
+next-part st reading-theirs = reading-common
 
 abbrev pub next-skip : Labels → Part → ℕ
-next-skip l outside = more-pieces (l .other)
-next-skip l in-o = more-pieces (l .current)
-next-skip l in-b = more-pieces (l .ancestor)
-next-skip l in-t = 1
+next-skip l reading-common = more-pieces (l .other)
+next-skip l reading-ours = more-pieces (l .current)
+next-skip l reading-base = more-pieces (l .ancestor)
+next-skip l reading-theirs = 1
 
 abbrev pub closing : Reading → Part → List Item
-closing r outside = []
-closing r in-o = []
-closing r in-b = []
-closing r in-t = block (r .o) (r .b) (r .t) ∷ []
+closing r reading-common = []
+closing r reading-ours = []
+closing r reading-base = []
+closing r reading-theirs = block (r .ours) (r .base) (r .theirs) ∷ []
 
 abbrev pub moved : ConflictStyle → Labels → Reading → Part → Reading
-moved st l r outside = record { part = next-part st outside; skip = next-skip l (next-part st outside); o = []; b = []; t = [] }
-moved st l r in-o = record { part = next-part st in-o; skip = next-skip l (next-part st in-o); o = r .o; b = r .b; t = r .t }
-moved st l r in-b = record { part = next-part st in-b; skip = next-skip l (next-part st in-b); o = r .o; b = r .b; t = r .t }
-moved st l r in-t = record { part = next-part st in-t; skip = next-skip l (next-part st in-t); o = []; b = []; t = [] }
+moved st l r reading-common = record { part = next-part st reading-common; skip = next-skip l (next-part st reading-common); ours = []; base = []; theirs = [] }
+moved st l r reading-ours = record { part = next-part st reading-ours; skip = next-skip l (next-part st reading-ours); ours = r .ours; base = r .base; theirs = r .theirs }
+moved st l r reading-base = record { part = next-part st reading-base; skip = next-skip l (next-part st reading-base); ours = r .ours; base = r .base; theirs = r .theirs }
+moved st l r reading-theirs = record { part = next-part st reading-theirs; skip = next-skip l (next-part st reading-theirs); ours = []; base = []; theirs = [] }
 
 abbrev pub skipped : Reading → Reading
-skipped r = record { part = r .part; skip = r .skip - 1; o = r .o; b = r .b; t = r .t }
+skipped r = record { part = r .part; skip = r .skip - 1; ours = r .ours; base = r .base; theirs = r .theirs }
 
 abbrev pub read-kind : ConflictStyle → Labels → Reading → Kind → Line → Reading
 read-kind st l r common x = r
-read-kind st l r ours x = record { part = r .part; skip = r .skip; o = r .o ++ (x ∷ []); b = r .b; t = r .t }
-read-kind st l r base x = record { part = r .part; skip = r .skip; o = r .o; b = r .b ++ (x ∷ []); t = r .t }
-read-kind st l r theirs x = record { part = r .part; skip = r .skip; o = r .o; b = r .b; t = r .t ++ (x ∷ []) }
+read-kind st l r ours x = record { part = r .part; skip = r .skip; ours = r .ours ++ (x ∷ []); base = r .base; theirs = r .theirs }
+read-kind st l r base x = record { part = r .part; skip = r .skip; ours = r .ours; base = r .base ++ (x ∷ []); theirs = r .theirs }
+read-kind st l r theirs x = record { part = r .part; skip = r .skip; ours = r .ours; base = r .base; theirs = r .theirs ++ (x ∷ []) }
 read-kind st l r marker x = cond (eqb (r .skip) 0) (moved st l r (r .part)) (skipped r)
 read-kind st l r ending x = r
 
+-- What a piece adds to the outline: a common line itself, and the last marker its block.
 abbrev pub given-by : Reading → Kind → Line → List Item
 given-by r common x = line x ∷ []
 given-by r ours x = []

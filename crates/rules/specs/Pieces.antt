@@ -12,6 +12,7 @@ pub data Kind : Type 0 where
   marker : Kind
   ending : Kind
 
+-- A piece: its kind and its bytes.
 pub record Chunk : Type 0 where
   pub kind : Kind
   pub bytes : List ℕ
@@ -31,7 +32,7 @@ abbrev pub made : {V : Type 0} → (V → Chunk → V) → V → List Chunk → 
 made rule v [] = v
 made rule v (c ∷ cs) = made rule (rule v c) cs
 
--- At two kinds of sink: one that keeps the pieces, and one that keeps their bytes.
+-- Two rules: one that keeps the pieces, and one that keeps their bytes.
 abbrev pub one-more : List Chunk → Chunk → List Chunk
 one-more cs c = cs ++ (c ∷ [])
 

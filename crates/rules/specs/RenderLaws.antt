@@ -20,7 +20,7 @@ use Rattle.rules.specs.Verdict.{verdict}
 use Rattle.rules.specs.Questions.{Question}
 use Rattle.rules.specs.Refusals.{Render-refuses}
 use Rattle.rules.specs.Tables.{Held}
-use Rattle.rules.specs.Renders.{Asked, needed, size-answer, render-answer, Sink, filled-sink, render-sink}
+use Rattle.rules.specs.Renders.{Asked, needed, size-answer, render-answer, Sink-state, filled-sink, render-sink}
 
 -- The questions in words.
 pub record Counted (s : Sheets) (t : Held) : Type 0 where
@@ -64,9 +64,13 @@ pub record Render-rules (V : Type 0) (rule : V → Chunk → V) (fresh : V) (t :
   pub size-told : (m : modes.Conflict) (l : Labels) → Size-told t s m l
   pub render-told : (a : Asked) → Render-told t s a
   -- accepted, the sink has been given the rendering's pieces in order
-  pub given : (a : Asked) (k : Sink V) (v : Resolution) → render-answer t s a ≡ Ok v → render-sink rule fresh t s a k ≡ filled-sink rule fresh (rendering (a .mode) s (a .labels) (t .current) (t .other))
+  pub given : (a : Asked) (k : Sink-state V) (v : Resolution) → render-answer t s a ≡ Ok v → render-sink rule fresh t s a k ≡ filled-sink rule fresh (rendering (a .mode) s (a .labels) (t .current) (t .other))
   -- refused, it is as it was
-  pub left : (a : Asked) (k : Sink V) (r : RenderRefusal) → render-answer t s a ≡ Err r → render-sink rule fresh t s a k ≡ k
+  pub left : (a : Asked) (k : Sink-state V) (r : RenderRefusal) → render-answer t s a ≡ Err r → render-sink rule fresh t s a k ≡ k
+  -- the length is that of the rendering's bytes
+  pub length-told : (m : modes.Conflict) (l : Labels) → needed t s m l ≡ length (all-bytes (rendering m s l (t .current) (t .other)))
+  pub bytes-none : all-bytes [] ≡ []
+  pub bytes-more : (cs : List Chunk) (c : Chunk) → all-bytes (cs ++ (c ∷ [])) ≡ all-bytes cs ++ c .bytes
   -- lengths are those of the bytes, and a sink's value is made by its rule, one piece at a time from the fresh value on
   pub measured : (cs : List Chunk) → total cs ≡ length (all-bytes cs)
   pub made-none : made rule fresh [] ≡ fresh

@@ -28,6 +28,7 @@ pub record Asked : Type 0 where
   pub labels : Labels
   pub capacity : ℕ
 
+-- The marker size is asked for under Keep alone.
 abbrev pub size-fits : modes.Conflict → Bool
 size-fits (Keep style n) = leb 1 n && leb n max-marker-size
 size-fits ResolveWithOurs = true
@@ -49,6 +50,7 @@ shared-questions t s m l next =
     (ask (label-fits (l .current)) (LabelTooLong Current)
     (ask (label-fits (l .other)) (LabelTooLong Other) next))))))
 
+-- The length of the rendering.
 abbrev pub needed : Held → Sheets → modes.Conflict → Labels → ℕ
 needed t s m l = total (rendering m s l (t .current) (t .other))
 
@@ -70,14 +72,14 @@ abbrev pub render-answer : Held → Sheets → Asked → Result Resolution Rende
 render-answer t s a = answered (render-questions t s a) (verdict (a .mode) s (t .current) (t .other))
 
 -- A sink: the length announced, the bytes taken, and a value that a rule makes of the pieces.
-pub record Sink (V : Type 0) : Type 0 where
+pub record Sink-state (V : Type 0) : Type 0 where
   pub announced : ℕ
   pub taken : ℕ
   pub value : V
 
-abbrev pub filled-sink : {V : Type 0} → (V → Chunk → V) → V → List Chunk → Sink V
+abbrev pub filled-sink : {V : Type 0} → (V → Chunk → V) → V → List Chunk → Sink-state V
 filled-sink rule fresh cs = record { announced = total cs; taken = total cs; value = made rule fresh cs }
 
 -- What a render leaves in a sink: all pieces, from the fresh value on; refused, what was there.
-abbrev pub render-sink : {V : Type 0} → (V → Chunk → V) → V → Held → Sheets → Asked → Sink V → Sink V
+abbrev pub render-sink : {V : Type 0} → (V → Chunk → V) → V → Held → Sheets → Asked → Sink-state V → Sink-state V
 render-sink rule fresh t s a k = changed (render-questions t s a) (filled-sink rule fresh (rendering (a .mode) s (a .labels) (t .current) (t .other))) k

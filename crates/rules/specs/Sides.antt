@@ -12,6 +12,7 @@ use Rattle.rules.specs.Groups.{Cluster}
 use Rattle.rules.specs.Filling.{ours-of, theirs-of}
 use Rattle.rules.specs.Contraction.{Contracted, contracted}
 
+-- What left the sides ahead, what is left of ours and of theirs, and what left them behind.
 pub record Sides : Type 0 where
   pub front : List Hunk
   pub left : List Hunk
@@ -30,6 +31,7 @@ contracted-by s false k = by-lead false (contracted s (theirs-of k) (ours-of k))
 abbrev pub contracted-sides : Sheets → Cluster → Sides
 contracted-sides s k = contracted-by s (is-current (k .first .side)) k
 
+-- Not contracted.
 abbrev pub whole-sides : Cluster → Sides
 whole-sides k = record { front = []; left = ours-of k; right = theirs-of k; back = [] }
 
@@ -44,6 +46,7 @@ with-base Merge = false
 with-base Diff3 = true
 with-base ZealousDiff3 = true
 
+-- As a style takes them.
 abbrev pub sides-in : ConflictStyle → Sheets → Cluster → Sides
 sides-in style s k = cond (contracts style) (contracted-sides s k) (whole-sides k)
 

@@ -1,11 +1,11 @@
 -- The laws as statements of their own, of all hunks that a table can hold for its sheets.
-use Rattle.rules.specs.Walk.{walk}
 use Prim.Native.Nat.{_≤_}
 use mathlib.Core.List.{List}
 use lib.ListN.{length}
 use Rattle.rules.specs.declared.hunk.Hunk.{Hunk}
 use Rattle.rules.specs.Limits.{max-hunks}
 use Rattle.rules.specs.Hunks.{Sheets}
+use Rattle.rules.specs.Walk.{walk}
 use Rattle.rules.specs.Runs.{Call}
 use Rattle.rules.specs.Order.{Kept}
 use Rattle.rules.specs.HunkLaws.{Hunk-laws}

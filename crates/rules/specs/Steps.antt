@@ -9,11 +9,11 @@ use Rattle.rules.specs.Lines.{Line}
 use Rattle.rules.specs.Endings.{ending-bytes}
 use Rattle.rules.specs.Pieces.{Kind, ending, Chunk}
 
--- One step of writing: a piece, or an ending piece where a line is open.
 pub data Step : Type 0 where
   put : Chunk → Step
   close : Ending → Step
 
+-- Each line is one piece.
 abbrev pub each : Kind → List Line → List Step
 each k [] = []
 each k (l ∷ ls) = put (record { kind = k; bytes = l }) ∷ each k ls
@@ -23,6 +23,7 @@ abbrev pub left-open : Bool → List ℕ → Bool
 left-open o [] = o
 left-open o (b ∷ bs) = not (eqb (getD (b ∷ bs) (length bs) 0) 10)
 
+-- The pieces of steps, a line being open or not.
 abbrev pub pieces-of : Bool → List Step → List Chunk
 pieces-of o [] = []
 pieces-of o (put c ∷ ss) = c ∷ pieces-of (left-open o (c .bytes)) ss

@@ -10,7 +10,7 @@ use lib.ListN.{length}
 use Rattle.std.specs.shelf.Lists.{All}
 use Rattle.rules.specs.declared.hunk.Hunk.{Hunk}
 use Rattle.rules.specs.declared.hunk.Side.{Side}
-use Rattle.rules.specs.declared.hunk.Side.the-variants.{Current, Other}
+use Rattle.rules.specs.declared.hunk.Side.the-variants.{Current, Other, Ancestor}
 use Rattle.rules.specs.declared.hunk.Span.{Span}
 use Rattle.rules.specs.declared.refusal.TableRefusal.{TableRefusal}
 use Rattle.rules.specs.Limits.{max-lines, max-hunks}
@@ -80,7 +80,17 @@ Withdraw-told t side =
     (Question (0 < length (held-of t side)) (Table-refuses x 13 0)
     (x ≡ Ok (length (held-of t side) - 1)))
 
+-- A table that holds other hunks of one side: it holds them, and the other side and the counts stay.
+pub record Holds (t : Held) (side : Side) (hs : List Hunk) (u : Held) : Type 0 where
+  pub these : held-of u side ≡ hs
+  pub other-side : (facing : Side) → (facing ≡ side → ⊥) → held-of u facing ≡ held-of t facing
+  pub same-counts : (facing : Side) → count-of u facing ≡ count-of t facing
+
 pub record Table-rules (t : Held) : Type 0 where
+  pub holds : (side : Side) (hs : List Hunk) → Two-sided side → Holds t side hs (holding t side hs)
+  -- an opened table has its counts and holds nothing
+  pub opened-counts : (a c o : ℕ) → (count-of (opened a c o) Ancestor ≡ a) × (count-of (opened a c o) Current ≡ c) × (count-of (opened a c o) Other ≡ o)
+  pub opened-empty : (a c o : ℕ) (side : Side) → held-of (opened a c o) side ≡ []
   pub enters : (h : Hunk) → Enter-law t h
   pub withdraws : (side : Side) → Withdraw-law t side
   -- an opening that is accepted leaves the table empty with the counts, one that is refused leaves it as it was

@@ -15,7 +15,7 @@ use Rattle.rules.specs.Filling.{sides-differ}
 use Rattle.rules.specs.Sides.{contracted-sides, sides-in}
 use Rattle.rules.specs.Blocks.{blocked}
 
--- The verdict.
+-- Whether a mode marks a group.
 abbrev pub marks : modes.Conflict → Sheets → Cluster → Bool
 marks (Keep style n) s k = blocked style s (sides-in style s k .left) (sides-in style s k .right)
 marks ResolveWithOurs s k = sides-differ s k
@@ -26,6 +26,7 @@ abbrev pub any-marked : modes.Conflict → Sheets → List Cluster → Bool
 any-marked m s [] = false
 any-marked m s (k ∷ ks) = (is-group k && marks m s k) || any-marked m s ks
 
+-- What a mode says where it has marked one.
 abbrev pub marked-verdict : modes.Conflict → Resolution
 marked-verdict (Keep style n) = Conflict
 marked-verdict ResolveWithOurs = CompleteWithAutoResolvedConflict

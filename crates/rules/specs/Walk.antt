@@ -7,11 +7,12 @@ use Rattle.rules.specs.declared.hunk.Hunk.{Hunk}
 use Rattle.rules.specs.declared.hunk.Side.{Side}
 use Rattle.rules.specs.declared.hunk.Side.the-variants.{Current, Other, Ancestor}
 
--- Both lists together by before.start, Current first at equal starts.
+-- A hunk of Current, and what follows it, walked together with the hunks of Other.
 abbrev pub walk-from : Hunk → (List Hunk → List Hunk) → List Hunk → List Hunk
 walk-from c rest [] = c ∷ rest []
 walk-from c rest (o ∷ os) = cond (leb (c .before .start) (o .before .start)) (c ∷ rest (o ∷ os)) (o ∷ walk-from c rest os)
 
+-- The walk of the hunks of Current and of Other.
 abbrev pub walk : List Hunk → List Hunk → List Hunk
 walk [] os = os
 walk (c ∷ cs) os = walk-from c (walk cs) os

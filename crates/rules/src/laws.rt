@@ -1,5 +1,7 @@
 //! The laws, each the contract of a function: no check passes without their proofs.
+ghost use mathlib.Core.Path.{_≡_};
 ghost use Rattle.rules.specs.Hunks.{Sheets as AllSheets};
+ghost use Rattle.rules.specs.Limits.{max-lines, max-bytes, max-hunks, max-label, max-marker-size};
 ghost use Rattle.rules.specs.Tables.{Held};
 ghost use Rattle.rules.specs.Agreement.{Units-agree};
 ghost use Rattle.rules.specs.Cases.{Cases};
@@ -9,11 +11,24 @@ ghost use Rattle.rules.specs.RunLaws.{Tables-keep, Same-calls-same-hunks, Agre
 ghost use Rattle.rules.specs.Statements.{Hunks-stand, Walks-stand, Groups-stand, Ranges-stand, Sides-stand, Endings-stand, Markers-stand, Unions-stand, Verdicts-stand, Outlines-stand, Lengths-stand, Held-stands};
 ghost use Rattle.rules.specs.TableLaws.{Tables-follow-rules, Keeps-law};
 ghost use Rattle.rules.specs.WalkLaws.{Touch-law};
+use crate::limits::MAX_BYTES;
+use crate::limits::MAX_HUNKS;
+use crate::limits::MAX_LABEL;
+use crate::limits::MAX_LINES;
+use crate::limits::MAX_MARKER_SIZE;
 use crate::sink::Bytes;
 use crate::sink::BytesTake;
 use crate::sink::Pieces;
 use crate::sink::PiecesTake;
 use crate::sink::Takes;
+
+/// The limits: 4,096 lines and 60,000 bytes a sheet, 256 hunks a side, 64 bytes a label, and marker size 255.
+pub fn limits_stand() -> (u32, usize, usize, usize, u32)
+    ensures numbers { λ r. ⌜ r ≡ (4096, 60000, 256, 64, 255) ⌝ }
+    ensures names { λ r. ⌜ r ≡ (max-lines, max-bytes, max-hunks, max-label, max-marker-size) ⌝ }
+{
+    (MAX_LINES, MAX_BYTES, MAX_HUNKS, MAX_LABEL, MAX_MARKER_SIZE)
+}
 
 /// The worked cases come out as stated, in all six modes.
 pub fn cases_stand() -> u8
