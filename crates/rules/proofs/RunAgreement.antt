@@ -9,7 +9,8 @@ use Rattle.rules.specs.Runs.{Call, open-with, enter, withdraw, render, after-r
 use Rattle.rules.specs.Exchange.{exchanged-sheets, Holds-exchanged}
 use Rattle.rules.specs.Order.{Kept}
 use Rattle.rules.specs.Agreement.{Alike}
-use Rattle.rules.specs.RunLaws.{Call-laws, Agreement-over-runs, Units-agree-over-runs}
+use Rattle.rules.specs.RunLaws.{Call-laws}
+use Rattle.rules.specs.RunAgreement.{Agreement-over-runs, Units-agree-over-runs}
 use Rattle.rules.proofs.Agreed.{laws, units-agree}
 use Rattle.rules.proofs.Answers.{same-calls}
 use Rattle.rules.proofs.Lengths.{length-law}
@@ -17,6 +18,7 @@ use Rattle.rules.proofs.Rendered.{render-rules, accepted-counted}
 use Rattle.rules.proofs.Rules.{follow-rules}
 use Rattle.rules.proofs.Standing.{held-law}
 use Rattle.rules.proofs.TableKeeps.{tables-keep, keeps-law, table-kept, after-both, since-opening}
+use Rattle.rules.proofs.TwoUnits.{two-units}
 
 alike-after : (s : Sheets) (t t′ : Held) → Kept s (t .current) (t .other) → Holds-exchanged t t′ → Alike s (t .current) (t .other) (t′ .current) (t′ .other)
 alike-after s t t′ p q = subst₂ (λ (x y : List Hunk). Alike s (t .current) (t .other) x y) (sym (q .0)) (sym (q .1)) (units-agree s (t .current) (t .other) p .alike)
@@ -56,6 +58,7 @@ agree-over-runs V rule fresh V′ rule′ fresh′ = record {
         second-short = length-law (exchanged-sheets s) (t′ .current) (t′ .other) h′ (k′ .few-current) (k′ .few-other);
         alike = alike-after s t t′ h;
       };
+  told = two-units;
 }
 
 pub units-agree-over-runs : Units-agree-over-runs

@@ -258,6 +258,26 @@ equal-starts = record {
   size = 7;
 }
 
+-- The leading lines are shared first, so that a line that could be either stands ahead of the block.
+abbrev pub repeated-line : Case
+repeated-line = record {
+  sheets = sheets-of (text-lines (codes "m\n")) (text-lines (codes "a\na\n")) (text-lines (codes "a\n"));
+  current = cur 0 1 0 2 ∷ [];
+  other = oth 0 1 0 1 ∷ [];
+  labels = no-labels;
+  size = 7;
+}
+
+-- A union closes an open line of ours by the ending of ours, ahead of theirs.
+abbrev pub union-ours : Case
+union-ours = record {
+  sheets = sheets-of (text-lines (codes "m\n")) (text-lines (codes "x\r\np")) (text-lines (codes "y\nq"));
+  current = cur 0 1 0 2 ∷ [];
+  other = oth 0 1 0 2 ∷ [];
+  labels = no-labels;
+  size = 7;
+}
+
 pub record Cases : Type 0 where
   pub none-held-in-all : Always none-held (codes "a\nb\n") Complete
   pub adjacent-in-modes : In-modes adjacent
@@ -368,6 +388,20 @@ pub record Cases : Type 0 where
       (gives (codes "fb\nm\n") CompleteWithAutoResolvedConflict)
       (gives (codes "fm\n") CompleteWithAutoResolvedConflict)
       (gives (codes "f\r\nb\nm\n") CompleteWithAutoResolvedConflict)
+  pub repeated-line-in-modes : In-modes repeated-line
+      (gives (codes "a\n<<<<<<<\na\n=======\n>>>>>>>\n") Conflict)
+      (gives (codes "<<<<<<<\na\na\n|||||||\nm\n=======\na\n>>>>>>>\n") Conflict)
+      (gives (codes "a\n<<<<<<<\na\n|||||||\nm\n=======\n>>>>>>>\n") Conflict)
+      (gives (codes "a\na\n") CompleteWithAutoResolvedConflict)
+      (gives (codes "a\n") CompleteWithAutoResolvedConflict)
+      (gives (codes "a\na\n") CompleteWithAutoResolvedConflict)
+  pub union-ours-in-modes : In-modes union-ours
+      (gives (codes "<<<<<<<\r\nx\r\np\r\n=======\r\ny\nq\r\n>>>>>>>\r\n") Conflict)
+      (gives (codes "<<<<<<<\r\nx\r\np\n|||||||\nm\n=======\r\ny\nq\r\n>>>>>>>\r\n") Conflict)
+      (gives (codes "<<<<<<<\r\nx\r\np\n|||||||\nm\n=======\r\ny\nq\r\n>>>>>>>\r\n") Conflict)
+      (gives (codes "x\r\np") CompleteWithAutoResolvedConflict)
+      (gives (codes "y\nq") CompleteWithAutoResolvedConflict)
+      (gives (codes "x\r\np\r\ny\nq") CompleteWithAutoResolvedConflict)
   -- the table: behind 0..1/0..1 a hunk that starts at its end is refused, one that leaves a line between is not
   pub touching-enter-refused : enter-answer (enter-after (opened 2 3 3) (cur 0 1 0 1)) (cur 1 1 1 2) ≡ Err NotBehindLast
   pub later-enter-taken : enter-answer (enter-after (opened 2 3 3) (cur 0 1 0 1)) (cur 2 2 2 3) ≡ Ok 2

@@ -41,5 +41,7 @@ pub mod RenderLaws
 pub mod Lengths
 pub mod Agreement
 pub mod RunLaws
+pub mod TwoUnits
+pub mod RunAgreement
 pub mod Statements
 pub mod Cases

@@ -7,7 +7,10 @@ ghost use Rattle.rules.specs.Agreement.{Units-agree};
 ghost use Rattle.rules.specs.Cases.{Cases};
 ghost use Rattle.rules.specs.GroupLaws.{Exchange-keeps-groups};
 ghost use Rattle.rules.specs.RenderLaws.{Render-rules};
-ghost use Rattle.rules.specs.RunLaws.{Tables-keep, Same-calls-same-hunks, Agreement-over-runs, Units-agree-over-runs};
+ghost use Rattle.rules.specs.RunLaws.{Tables-keep, Same-calls-same-hunks};
+ghost use Rattle.rules.specs.RunAgreement.{Agreement-over-runs, Units-agree-over-runs};
+ghost use Rattle.rules.specs.TwoUnits.{Unit-of, Two-units};
+ghost use Rattle.rules.specs.Exchange.{exchanged-sheets};
 ghost use Rattle.rules.specs.Statements.{Hunks-stand, Walks-stand, Groups-stand, Ranges-stand, Sides-stand, Endings-stand, Markers-stand, Unions-stand, Verdicts-stand, Outlines-stand, Lengths-stand, Held-stands};
 ghost use Rattle.rules.specs.TableLaws.{Tables-follow-rules, Keeps-law};
 ghost use Rattle.rules.specs.WalkLaws.{Touch-law};
@@ -173,6 +176,13 @@ pub fn same_calls_same_hunks() -> u8
 /// What size and render ask, answer and leave in a sink of any kind.
 pub fn renders_follow_rules<K: Takes>() -> u8
     ensures { λ _. ⌜ ((t : Held) (s : AllSheets) → Render-rules (K·Takes .value) (K·Takes .rule) (K·Takes .fresh) t s) ⌝ }
+{
+    0
+}
+
+/// What accepted renders of two units show, told in words.
+pub fn two_units_agree() -> u8
+    ensures { λ _. ⌜ ((s : AllSheets) (u : Unit-of s) (v : Unit-of (exchanged-sheets s)) → Two-units s u v) ⌝ }
 {
     0
 }
