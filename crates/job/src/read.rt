@@ -1,17 +1,36 @@
 ghost use mathlib.Core.Path.{_≡_};
 ghost use lib.Chars.{codes};
-ghost use denote.Ref.{now as at-ref};
 ghost use Rattle.std.specs.Options.{mapped};
-ghost use Rattle.job.specs.Orders.{Reads-back, after, asks-nothing, order, order-of, read-kind, read-lines, read-sheet, side-named, sheet-order};
+ghost use Rattle.job.specs.Orders.{Reads-back, asks-nothing, order, order-of, read-alone, read-worded};
 use crate::command::Command;
-use crate::command::SheetKind;
-use rules::hunk::Side;
+use crate::read::sheets::read_lines;
+use crate::read::sheets::read_row;
+use crate::read::sheets::read_sheet;
+use crate::read::table::read_enter;
+use crate::read::table::read_open;
+use crate::read::table::read_withdraw;
+use crate::read::words::what_follows;
 use sheet::line::same_line;
+
+mod numbers;
+mod sheets;
+mod table;
+mod words;
 
 /// What a line of a job asks for, or nothing where it is not understood.
 pub fn read_command(line: &[u8]) -> Option<Command<'_>>
     ensures answer { λ r. ⌜ mapped order r ≡ order-of (now (line .entry)) ⌝ }
     ensures law { λ _. ⌜ Reads-back ⌝ }
+{
+    match read_alone(line) {
+        Some(command) => Some(command),
+        None => read_worded(line),
+    }
+}
+
+/// The commands that are a word alone, or no word.
+fn read_alone(line: &[u8]) -> Option<Command<'_>>
+    ensures { λ r. ⌜ mapped order r ≡ read-alone (now (line .entry)) ⌝ }
 {
     if asks_nothing(line) {
         return Some(Command::Nothing);
@@ -19,11 +38,11 @@ pub fn read_command(line: &[u8]) -> Option<Command<'_>>
     if same_line(line, b"help") {
         return Some(Command::Help);
     }
-    if let Some(rest) = what_follows(b"lines ", line) {
-        return read_lines(rest);
+    if same_line(line, b"open") {
+        return Some(Command::Open);
     }
-    if let Some(rest) = what_follows(b"sheet ", line) {
-        return read_sheet(rest);
+    if same_line(line, b"held") {
+        return Some(Command::Held);
     }
     None
 }
@@ -38,75 +57,27 @@ fn asks_nothing(line: &[u8]) -> bool
     }
 }
 
-/// What follows a word at the front of a line.
-fn what_follows<'a>(word: &[u8], line: &'a [u8]) -> Option<&'a [u8]>
-    ensures { λ r. ⌜ mapped now r ≡ after (now (word .entry)) (now (line .entry)) ⌝ }
+/// The commands that go on behind their first word.
+fn read_worded(line: &[u8]) -> Option<Command<'_>>
+    ensures { λ r. ⌜ mapped order r ≡ read-worded (now (line .entry)) ⌝ }
 {
-    if line.starts_with(word) {
-        Some(&line[word.len()..])
-    } else {
-        None
+    if let Some(rest) = what_follows(b"lines ", line) {
+        return read_lines(rest);
     }
-}
-
-fn read_lines(line: &[u8]) -> Option<Command<'_>>
-    ensures { λ r. ⌜ mapped order r ≡ read-lines (now (line .entry)) ⌝ }
-{
-    match side_named(line) {
-        Some(side) => Some(Command::Lines { side }),
-        None => None,
+    if let Some(rest) = what_follows(b"sheet ", line) {
+        return read_sheet(rest);
     }
-}
-
-/// The side that a whole word names.
-fn side_named(word: &[u8]) -> Option<Side>
-    ensures { λ r. ⌜ r ≡ side-named (now (word .entry)) ⌝ }
-{
-    if same_line(word, b"ancestor") {
-        return Some(Side::Ancestor);
+    if let Some(rest) = what_follows(b"row ", line) {
+        return read_row(rest);
     }
-    if same_line(word, b"current") {
-        return Some(Side::Current);
+    if let Some(rest) = what_follows(b"open ", line) {
+        return read_open(rest);
     }
-    if same_line(word, b"other") {
-        return Some(Side::Other);
+    if let Some(rest) = what_follows(b"enter ", line) {
+        return read_enter(rest);
+    }
+    if let Some(rest) = what_follows(b"withdraw ", line) {
+        return read_withdraw(rest);
     }
     None
-}
-
-fn read_sheet(line: &[u8]) -> Option<Command<'_>>
-    ensures { λ r. ⌜ mapped order r ≡ read-sheet (now (line .entry)) ⌝ }
-{
-    if let Some(rest) = what_follows(b"ancestor ", line) {
-        return read_kind(Side::Ancestor, rest);
-    }
-    if let Some(rest) = what_follows(b"current ", line) {
-        return read_kind(Side::Current, rest);
-    }
-    if let Some(rest) = what_follows(b"other ", line) {
-        return read_kind(Side::Other, rest);
-    }
-    None
-}
-
-fn read_kind(side: Side, line: &[u8]) -> Option<Command<'_>>
-    ensures { λ r. ⌜ mapped order r ≡ read-kind side (now (line .entry)) ⌝ }
-{
-    if let Some(path) = what_follows(b"text ", line) {
-        return read_path(side, SheetKind::Text, path);
-    }
-    if let Some(path) = what_follows(b"cells ", line) {
-        return read_path(side, SheetKind::Cells, path);
-    }
-    None
-}
-
-/// A path is not empty.
-fn read_path(side: Side, kind: SheetKind, path: &[u8]) -> Option<Command<'_>>
-    ensures { λ r. ⌜ mapped order r ≡ sheet-order side kind (now (path .entry)) ⌝ }
-{
-    if path.is_empty() {
-        return None;
-    }
-    Some(Command::Sheet { side, kind, path })
 }

@@ -8,7 +8,7 @@ use Rattle.std.proofs.shelf.Equals.{matches-decides}
 use Rattle.std.proofs.shelf.Lists.{take-all}
 use Rattle.std.specs.declared.option.Option.the-variants.{Some}
 use Rattle.job.proofs.Folds.{word-there, word-absent}
-use Rattle.job.proofs.read.what_follows.Needs as need
+use Rattle.job.proofs.read.words.what_follows.Needs as need
 
 all-of : (n : ℕ) (t : List ℕ) → take (length t - n) (drop n t) ≡ drop n t
 all-of n t = let e = length-drop n t in take-all (length t - n) (drop n t) (omega arith)
