@@ -24,6 +24,7 @@ cases = record {
   union-back-in-modes = record { in-merge = (refl, refl); in-diff3 = (refl, refl); in-zealous = (refl, refl); in-ours = (refl, refl); in-theirs = (refl, refl); in-union = (refl, refl) };
   equal-starts-in-modes = record { in-merge = (refl, refl); in-diff3 = (refl, refl); in-zealous = (refl, refl); in-ours = (refl, refl); in-theirs = (refl, refl); in-union = (refl, refl) };
   repeated-line-in-modes = record { in-merge = (refl, refl); in-diff3 = (refl, refl); in-zealous = (refl, refl); in-ours = (refl, refl); in-theirs = (refl, refl); in-union = (refl, refl) };
+  union-middle-in-modes = record { in-merge = (refl, refl); in-diff3 = (refl, refl); in-zealous = (refl, refl); in-ours = (refl, refl); in-theirs = (refl, refl); in-union = (refl, refl) };
   touching-enter-refused = refl;
   later-enter-taken = refl;
 }

@@ -268,6 +268,16 @@ repeated-line = record {
   size = 7;
 }
 
+-- A union closes an open line of ours by the ending of ours, ahead of theirs.
+abbrev pub union-middle : Case
+union-middle = record {
+  sheets = sheets-of (text-lines (codes "m\n")) (text-lines (codes "x\r\np")) (text-lines (codes "y\nq"));
+  current = cur 0 1 0 2 ∷ [];
+  other = oth 0 1 0 2 ∷ [];
+  labels = no-labels;
+  size = 7;
+}
+
 pub record Cases : Type 0 where
   pub none-held-in-all : Always none-held (codes "a\nb\n") Complete
   pub adjacent-in-modes : In-modes adjacent
@@ -385,6 +395,13 @@ pub record Cases : Type 0 where
       (gives (codes "a\na\n") CompleteWithAutoResolvedConflict)
       (gives (codes "a\n") CompleteWithAutoResolvedConflict)
       (gives (codes "a\na\n") CompleteWithAutoResolvedConflict)
+  pub union-middle-in-modes : In-modes union-middle
+      (gives (codes "<<<<<<<\r\nx\r\np\r\n=======\r\ny\nq\r\n>>>>>>>\r\n") Conflict)
+      (gives (codes "<<<<<<<\r\nx\r\np\n|||||||\nm\n=======\r\ny\nq\r\n>>>>>>>\r\n") Conflict)
+      (gives (codes "<<<<<<<\r\nx\r\np\n|||||||\nm\n=======\r\ny\nq\r\n>>>>>>>\r\n") Conflict)
+      (gives (codes "x\r\np") CompleteWithAutoResolvedConflict)
+      (gives (codes "y\nq") CompleteWithAutoResolvedConflict)
+      (gives (codes "x\r\np\r\ny\nq") CompleteWithAutoResolvedConflict)
   -- the table: behind 0..1/0..1 a hunk that starts at its end is refused, one that leaves a line between is not
   pub touching-enter-refused : enter-answer (enter-after (opened 2 3 3) (cur 0 1 0 1)) (cur 1 1 1 2) ≡ Err NotBehindLast
   pub later-enter-taken : enter-answer (enter-after (opened 2 3 3) (cur 0 1 0 1)) (cur 2 2 2 3) ≡ Ok 2
