@@ -81,7 +81,7 @@ module _ (st : ConflictStyle) (n : ℕ) (l : Labels) where
   mark-good p q m e v rest fs k o = subst (Form st n l (e ∷ fs) p o) (sym (marked o (mark-byte m) (mark-label l m) e rest)) (mark m e v (k false))
 
 -- the endings as they are written
-one-shown : (x : Option Ending) → or-newline x ≡ first-shown (x ∷ [])
+pub one-shown : (x : Option Ending) → or-newline x ≡ first-shown (x ∷ [])
 one-shown None = refl
 one-shown (Some e) = refl
 

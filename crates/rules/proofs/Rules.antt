@@ -24,9 +24,10 @@ use Rattle.rules.specs.declared.refusal.TableRefusal.the-variants.{CountTooLar
 use Rattle.rules.specs.Limits.{max-lines, max-hunks}
 use Rattle.rules.specs.Questions.{ask, answered, changed, Question}
 use Rattle.rules.specs.Refusals.{table-number, table-place, Table-refuses}
-use Rattle.rules.specs.Tables.{Held, opened, held-of, count-of, holding, has-hunks, within, changes, follows, last-from, last-of, without-last, open-questions, open-answer, open-after, enter-questions, enter-answer, enter-after, withdraw-questions, withdraw-after}
+use Rattle.rules.specs.Tables.{Held, opened, held-of, count-of, holding, has-hunks, within, changes, follows, last-of, without-last, open-questions, open-answer, open-after, enter-questions, enter-answer, enter-after, withdraw-questions, withdraw-after}
 use Rattle.rules.specs.TableLaws.{Two-sided, Within, Not-empty, Behind-last, May-enter, Enter-law, Withdraw-law, Open-told, Withdraw-told, Tables-follow-rules, Holds}
 use Rattle.rules.proofs.Asking.{yes-then, then-yes, question}
+use Rattle.rules.proofs.Keeping.{last-push}
 
 pub within-says : (n : ℕ) (r : Span) → within n r ≡ true → Within n r
 within-says n r e = let p = and-parts (leb (r .start) (r .end)) (leb (r .end) n) e in (leb-true (r .start) (r .end) (p .0), leb-true (r .end) n (p .1))
@@ -56,10 +57,6 @@ says-follows g h p =
     and-from (ltb (g .before .end) (h .before .start)) (leb (g .after .end) (h .after .start)) (lt-ltb (g .before .end) (h .before .start) (p .0)) (le-leb (g .after .end) (h .after .start) (p .1))
 
 -- the last of a list
-pub last-pushed : (o : Option Hunk) (gs : List Hunk) (g : Hunk) → last-from o (gs ++ (g ∷ [])) ≡ Some g
-last-pushed o [] g = refl
-last-pushed o (x ∷ xs) g = last-pushed (Some x) xs g
-
 front-of : (x : Hunk) (xs : List Hunk) → (gs : List Hunk) × (g : Hunk) × (x ∷ xs ≡ gs ++ (g ∷ []))
 front-of x [] = ([], x, refl)
 front-of x (y ∷ ys) = let (gs, g, e) = front-of y ys in (x ∷ gs, g, ap (λ (l : List Hunk). x ∷ l) e)
@@ -68,11 +65,11 @@ pub last-behind : (hs : List Hunk) (h : Hunk) → Behind-last hs h → follows (
 last-behind [] h f = refl
 last-behind (x ∷ xs) h f =
     let (gs, g, e) = front-of x xs in
-    ap (λ (l : List Hunk). follows (last-of l) h) e ∙ ap (λ (o : Option Hunk). follows o h) (last-pushed None gs g) ∙ says-follows g h (f gs g e)
+    ap (λ (l : List Hunk). follows (last-of l) h) e ∙ ap (λ (o : Option Hunk). follows o h) (last-push None gs g) ∙ says-follows g h (f gs g e)
 
 behind-last-says : (hs : List Hunk) (h : Hunk) → follows (last-of hs) h ≡ true → Behind-last hs h
 behind-last-says hs h e gs g p =
-    follows-says g h (ap (λ (o : Option Hunk). follows o h) (sym (last-pushed None gs g)) ∙ ap (λ (l : List Hunk). follows (last-of l) h) (sym p) ∙ e)
+    follows-says g h (ap (λ (o : Option Hunk). follows o h) (sym (last-push None gs g)) ∙ ap (λ (l : List Hunk). follows (last-of l) h) (sym p) ∙ e)
 
 two-sided : (side : Side) → has-hunks side ≡ true → Two-sided side
 two-sided Current e = inl refl

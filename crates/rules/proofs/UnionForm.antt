@@ -3,8 +3,7 @@ use Prim.Native.Nat.{ℕ}
 use mathlib.Core.Path.{_≡_, refl, sym, ap, subst, subst₂, _∙_, ap₂}
 use mathlib.Core.Bool.{Bool, true, false, cond, _&&_}
 use mathlib.Core.List.{List, [], _∷_, _++_}
-use Rattle.std.specs.declared.option.Option.{Option}
-use Rattle.std.specs.declared.option.Option.the-variants.{None, Some}
+use Rattle.std.specs.declared.option.Option.the-variants.{Some}
 use lib.ListN.{drop}
 use Rattle.std.proofs.shelf.Lists.{append-nil, append-assoc}
 use Rattle.std.proofs.shelf.Tests.{not-false}
@@ -30,6 +29,7 @@ use Rattle.rules.specs.MarkerLaws.{closed, first-shown}
 use Rattle.rules.specs.UnionLaws.{in-common, in-left, in-right, union-end, union-common, union-ours, union-theirs, to-ours, to-theirs, to-back, no-back, Gaps, Union-form, Union-law, Union-place, all-gaps, back-gap, union-gaps}
 use Rattle.rules.proofs.Fits.{Fit, kept-fit}
 use Rattle.rules.proofs.HunkCuts.{led-cuts, no-back-left}
+use Rattle.rules.proofs.Marked.{one-shown}
 use Rattle.rules.proofs.Shared.{same-lines-true}
 use Rattle.rules.proofs.Unions.{contraction-law}
 use Rattle.rules.proofs.Verdicts.{blocked-is}
@@ -63,10 +63,6 @@ ours-next g rest fs k o = subst (Union-form (g ∷ fs) in-common o) (sym (gap o 
 
 theirs-next : (g : Gaps) → Good [] (in-left g) (close (g .theirs) ∷ []) (in-right g)
 theirs-next g rest fs k o = subst (Union-form fs (in-left g) o) (sym (gap o (g .theirs) rest)) (to-theirs g (k false))
-
-one-shown : (x : Option Ending) → or-newline x ≡ first-shown (x ∷ [])
-one-shown None = refl
-one-shown (Some e) = refl
 
 -- back, or none
 back-next : (s : Sheets) (g : Gaps) (right back : List Hunk) → g .back ≡ back-gap s right back → Good [] (in-right g) (back-close s right back) in-common

@@ -24,7 +24,13 @@ cases = record {
   union-back-in-modes = record { in-merge = (refl, refl); in-diff3 = (refl, refl); in-zealous = (refl, refl); in-ours = (refl, refl); in-theirs = (refl, refl); in-union = (refl, refl) };
   equal-starts-in-modes = record { in-merge = (refl, refl); in-diff3 = (refl, refl); in-zealous = (refl, refl); in-ours = (refl, refl); in-theirs = (refl, refl); in-union = (refl, refl) };
   repeated-line-in-modes = record { in-merge = (refl, refl); in-diff3 = (refl, refl); in-zealous = (refl, refl); in-ours = (refl, refl); in-theirs = (refl, refl); in-union = (refl, refl) };
-  union-ours-in-modes = record { in-merge = (refl, refl); in-diff3 = (refl, refl); in-zealous = (refl, refl); in-ours = (refl, refl); in-theirs = (refl, refl); in-union = (refl, refl) };
+  union-middle-in-modes = record { in-merge = (refl, refl); in-diff3 = (refl, refl); in-zealous = (refl, refl); in-ours = (refl, refl); in-theirs = (refl, refl); in-union = (refl, refl) };
   touching-enter-refused = refl;
   later-enter-taken = refl;
+  refused-number = refl;
+  withdrawal-counts = refl;
+  withdrawal-empties = refl;
+  rewritten-outline = refl;
+  small-sink = refl;
+  fitting-sink = refl;
 }

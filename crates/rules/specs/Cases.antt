@@ -13,6 +13,7 @@ use Rattle.rules.specs.declared.mode.Conflict.the-variants.{Keep, ResolveWithO
 use Rattle.rules.specs.declared.mode.ConflictStyle.the-variants.{Merge, Diff3, ZealousDiff3}
 use Rattle.rules.specs.declared.mode.Resolution.{Resolution}
 use Rattle.rules.specs.declared.mode.Resolution.the-variants.{Complete, CompleteWithAutoResolvedConflict, Conflict}
+use Rattle.rules.specs.declared.refusal.RenderRefusal.the-variants.{SinkTooSmall}
 use Rattle.rules.specs.declared.refusal.TableRefusal.the-variants.{NotBehindLast}
 use Rattle.rules.specs.Texts.{text-lines}
 use Rattle.rules.specs.Hunks.{Sheets, sheets-of}
@@ -20,7 +21,10 @@ use Rattle.rules.specs.Pieces.{all-bytes}
 use Rattle.rules.specs.Markers.{Labels, labels-of}
 use Rattle.rules.specs.Rendering.{rendering}
 use Rattle.rules.specs.Verdict.{verdict}
-use Rattle.rules.specs.Tables.{opened, enter-answer, enter-after}
+use Rattle.rules.specs.Refusals.{table-number}
+use Rattle.rules.specs.Tables.{opened, enter-answer, enter-after, withdraw-answer, withdraw-after}
+use Rattle.rules.specs.Renders.{render-answer}
+use Rattle.rules.specs.Outline.{line, block, outline}
 
 -- The hunk a..b/c..d of a side: a..b in the ancestor, c..d in the side's sheet.
 abbrev pub hunk-of : Side → ℕ → ℕ → ℕ → ℕ → Hunk
@@ -269,8 +273,8 @@ repeated-line = record {
 }
 
 -- A union closes an open line of ours by the ending of ours, ahead of theirs.
-abbrev pub union-ours : Case
-union-ours = record {
+abbrev pub union-middle : Case
+union-middle = record {
   sheets = sheets-of (text-lines (codes "m\n")) (text-lines (codes "x\r\np")) (text-lines (codes "y\nq"));
   current = cur 0 1 0 2 ∷ [];
   other = oth 0 1 0 2 ∷ [];
@@ -395,7 +399,7 @@ pub record Cases : Type 0 where
       (gives (codes "a\na\n") CompleteWithAutoResolvedConflict)
       (gives (codes "a\n") CompleteWithAutoResolvedConflict)
       (gives (codes "a\na\n") CompleteWithAutoResolvedConflict)
-  pub union-ours-in-modes : In-modes union-ours
+  pub union-middle-in-modes : In-modes union-middle
       (gives (codes "<<<<<<<\r\nx\r\np\r\n=======\r\ny\nq\r\n>>>>>>>\r\n") Conflict)
       (gives (codes "<<<<<<<\r\nx\r\np\n|||||||\nm\n=======\r\ny\nq\r\n>>>>>>>\r\n") Conflict)
       (gives (codes "<<<<<<<\r\nx\r\np\n|||||||\nm\n=======\r\ny\nq\r\n>>>>>>>\r\n") Conflict)
@@ -405,3 +409,13 @@ pub record Cases : Type 0 where
   -- the table: behind 0..1/0..1 a hunk that starts at its end is refused, one that leaves a line between is not
   pub touching-enter-refused : enter-answer (enter-after (opened 2 3 3) (cur 0 1 0 1)) (cur 1 1 1 2) ≡ Err NotBehindLast
   pub later-enter-taken : enter-answer (enter-after (opened 2 3 3) (cur 0 1 0 1)) (cur 2 2 2 3) ≡ Ok 2
+  pub refused-number : table-number NotBehindLast ≡ 12
+  -- a withdrawal takes it off again
+  pub withdrawal-counts : withdraw-answer (enter-after (opened 2 3 3) (cur 0 1 0 1)) Current ≡ Ok 0
+  pub withdrawal-empties : withdraw-after (enter-after (opened 2 3 3) (cur 0 1 0 1)) Current ≡ opened 2 3 3
+  -- the outline of two rewrites that share their ends
+  pub rewritten-outline : outline ZealousDiff3 no-labels (rendering (Keep ZealousDiff3 7) (rewritten .sheets) no-labels (rewritten .current) (rewritten .other))
+      ≡ line (codes "x\n") ∷ (block (codes "p\n" ∷ []) (codes "a\n" ∷ (codes "b\n" ∷ (codes "c\n" ∷ []))) (codes "q\n" ∷ []) ∷ (line (codes "z\n") ∷ []))
+  -- two lines of two bytes need a sink of four
+  pub small-sink : render-answer (opened 2 2 2) (none-held .sheets) (record { mode = ResolveWithOurs; labels = no-labels; capacity = 3 }) ≡ Err (SinkTooSmall 4 3)
+  pub fitting-sink : render-answer (opened 2 2 2) (none-held .sheets) (record { mode = ResolveWithOurs; labels = no-labels; capacity = 4 }) ≡ Ok Complete
