@@ -14,7 +14,7 @@ use Rattle.rules.specs.declared.hunk.Side.the-variants.{Current}
 use Rattle.rules.specs.declared.hunk.Hunk.{Hunk}
 use Rattle.hunks.specs.declared.list.HunkList.{HunkList}
 use lib.Dec.{leb, ltb}
-use Rattle.std.proofs.shelf.Tests.{cases-lt, lt-ltb, le-ltb, le-leb, lt-leb, cond-true, cond-false}
+use Rattle.std.proofs.shelf.Tests.{cases-lt, lt-ltb, le-leb, cond-true}
 use Rattle.hunks.specs.Lists.{held, pushed, pushed-all}
 
 -- what stands for a hunk where there is none
@@ -41,18 +41,12 @@ take-set-in (suc n) [] i x = refl
 take-set-in (suc n) (y ∷ ys) zero x = refl
 take-set-in (suc n) (y ∷ ys) (suc i) x = ap (λ zs. y ∷ zs) (take-set-in n ys i x)
 
--- a hunk has a place, or the list is full
+-- where there is a place
 pub pushed-room : (n : ℕ) (hs : List Hunk) (h : Hunk) → length hs < n → pushed n hs h ≡ hs ++ (h ∷ [])
 pushed-room n hs h lt = cond-true (ltb (length hs) n) (hs ++ (h ∷ [])) hs (lt-ltb _ _ lt)
 
-pub pushed-full : (n : ℕ) (hs : List Hunk) (h : Hunk) → n ≤ length hs → pushed n hs h ≡ hs
-pushed-full n hs h le = cond-false (ltb (length hs) n) (hs ++ (h ∷ [])) hs (le-ltb _ _ le)
-
 pub pushed-all-room : (n : ℕ) (hs gs : List Hunk) → length hs + length gs ≤ n → pushed-all n hs gs ≡ hs ++ gs
 pushed-all-room n hs gs le = cond-true (leb (length hs + length gs) n) (hs ++ gs) hs (le-leb _ _ le)
-
-pub pushed-all-full : (n : ℕ) (hs gs : List Hunk) → n < length hs + length gs → pushed-all n hs gs ≡ hs
-pushed-all-full n hs gs lt = cond-false (leb (length hs + length gs) n) (hs ++ gs) hs (lt-leb _ _ lt)
 
 -- the first n of the first len: the shorter of both
 pub take-least : {X : Type 0} (k len n : ℕ) (xs : List X) → k ≡ min len n → len ≤ length xs → take k xs ≡ take n (take len xs)

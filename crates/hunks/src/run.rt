@@ -20,6 +20,7 @@ pub enum Call {
     Withdraw(Side),
 }
 
+// One call; what it answers is not kept.
 fn make(table: &mut HunkTable, call: Call)
     ensures { λ _. ⌜ model (now (table .exit)) ≡ after-call (model (now (table .entry))) (call-of call) ⌝ }
 {

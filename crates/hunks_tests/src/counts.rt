@@ -1,5 +1,5 @@
 //! A side holds 256 hunks.
-use crate::hunk;
+use crate::make::hunk;
 use hunks::table::HunkTable;
 use rules::hunk::HunkDebug;
 use rules::hunk::HunkPartialEq;

@@ -1,5 +1,5 @@
 //! Lists of hunks in a fixed number of places.
-use crate::hunk;
+use crate::make::hunk;
 use hunks::list::HunkList;
 use rules::hunk::Hunk;
 use rules::hunk::HunkDebug;

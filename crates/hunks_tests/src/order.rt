@@ -1,5 +1,5 @@
 //! The order of a side's hunks, and what enter, withdraw and open leave.
-use crate::hunk;
+use crate::make::hunk;
 use hunks::table::HunkTable;
 use rules::hunk::HunkDebug;
 use rules::hunk::HunkPartialEq;

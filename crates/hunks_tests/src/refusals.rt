@@ -1,5 +1,5 @@
 //! Every refusal with its number, layer and place, and that it leaves the table as it was.
-use crate::hunk;
+use crate::make::hunk;
 use hunks::table::HunkTable;
 use rules::hunk::Hunk;
 use rules::hunk::HunkDebug;

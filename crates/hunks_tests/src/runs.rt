@@ -1,5 +1,5 @@
 //! Runs of calls, accepted and refused.
-use crate::hunk;
+use crate::make::hunk;
 use hunks::run::Call;
 use hunks::run::run;
 use hunks::table::HunkTable;
