@@ -5,7 +5,7 @@ use mathlib.Core.Path.{_≡_, refl, sym, _∙_, ap, subst}
 use mathlib.Core.Bool.{Bool, true, false, cond}
 use mathlib.Core.List.{List, [], _∷_, _++_}
 use lib.Dec.{eqb}
-use lib.ListN.{length, take, drop, getD}
+use lib.ListN.{length, take, drop, getD, length-drop}
 use borrow.Author.Tests.{eq-eqb, ne-eqb, eqb-true}
 use Rattle.std.proofs.shelf.Lists.{at-drop-more, at-drop-all}
 use Rattle.std.specs.declared.option.Option.{Option}
@@ -24,6 +24,22 @@ line-goes-on t i h e =
 
 pub no-line-left : (t : List ℕ) (i : ℕ) → length t ≤ i → line-length (drop i t) ≡ 0
 no-line-left t i h = at-drop-all line-length t i h
+
+-- a line has a byte at least, and no more than are there
+length-within : (t : List ℕ) → line-length t ≤ length t
+length-within [] = omega arith
+length-within (b ∷ bs) = let h = length-within bs in elim (eqb b 10) as (λ v. cond v 1 (suc (line-length bs)) ≤ suc (length bs)) [ true ↦ omega arith | false ↦ omega arith ]
+
+length-some : (t : List ℕ) → 0 < length t → 0 < line-length t
+length-some [] h = absurd (omega arith)
+length-some (b ∷ bs) h = elim (eqb b 10) as (λ v. 0 < cond v 1 (suc (line-length bs))) [ true ↦ omega arith | false ↦ omega arith ]
+
+pub line-forward : (t : List ℕ) (from to : ℕ) → to ≡ from + line-length (drop from t) → from < length t → (from < to) × (to ≤ length t)
+line-forward t from to e h =
+    let n = length-drop from t in
+    let a = length-within (drop from t) in
+    let b = length-some (drop from t) (omega arith) in
+    (omega arith, omega arith)
 
 -- what follows a word, by taking and dropping
 pub word-there : (w line : List ℕ) → take (length w) line ≡ w → after w line ≡ Some (drop (length w) line)

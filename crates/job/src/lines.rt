@@ -9,7 +9,8 @@ use sheet::line::same_line;
 
 /// Where the line that begins at a place of a job ends: behind its newline, or at the job's end.
 pub fn line_end(job: &[u8], from: usize) -> usize
-    ensures { λ r. ⌜ r ≡ line-end (now (job .entry)) from ⌝ }
+    ensures answer { λ r. ⌜ r ≡ line-end (now (job .entry)) from ⌝ }
+    ensures forward { λ r. ⌜ (from < length (now (job .entry)) → (from < r) × (r ≤ length (now (job .entry)))) ⌝ }
 {
     let mut at = from;
     while at < job.len() {
