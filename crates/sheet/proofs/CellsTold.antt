@@ -6,7 +6,7 @@ use mathlib.Core.Bool.{Bool, true, false, cond}
 use mathlib.Core.List.{List}
 use lib.Dec.{eqb, ltb}
 use lib.ListN.{length, take, drop}
-use borrow.Author.Tests.{eq-eqb, ltb-true}
+use borrow.Author.Tests.{eq-eqb, eqb-true, ltb-false, ltb-true}
 use Rattle.std.proofs.shelf.Lists.{drop-drop}
 use Rattle.std.proofs.shelf.Ways.{tells}
 use Rattle.std.specs.Results.{isOk}
@@ -15,7 +15,7 @@ use Rattle.std.specs.declared.option.Option.the-variants.{Some, None}
 use Rattle.std.specs.declared.result.Result.the-variants.{Ok, Err}
 use Rattle.sheet.specs.Cells.{cell-good, first-bad, judged, cells-answer, cells-in, Cell-law}
 use Rattle.sheet.specs.declared.refusal.SheetRefusal.the-variants.{CellsUnfit, BadCell}
-use Rattle.sheet.proofs.CellLaws.{cells-fit}
+use Rattle.sheet.proofs.CellLaws.{cells-fit, nth-in-cells}
 
 -- Cell n of c cells holds a line.
 abbrev Good : ℕ → List ℕ → ℕ → Bool → Type 0
@@ -74,14 +74,14 @@ told at (suc c) m = one-more at c m (cell-good (eqb c 0) (take 48 m)) refl (told
 -- The answer taken apart.
 record Asked (m : List ℕ) (v w : Bool) (o : Option ℕ) : Type 0 where
   accepted : (c : ℕ) → cond v (cond w (Err CellsUnfit) (judged o (cells-in m))) (Err CellsUnfit) ≡ Ok c → (v ≡ true) × (w ≡ false) × (o ≡ None) × (cells-in m ≡ c)
-  named : (b : ℕ) → cond v (cond w (Err CellsUnfit) (judged o (cells-in m))) (Err CellsUnfit) ≡ Err (BadCell b) → o ≡ Some b
+  named : (b : ℕ) → cond v (cond w (Err CellsUnfit) (judged o (cells-in m))) (Err CellsUnfit) ≡ Err (BadCell b) → (v ≡ true) × (w ≡ false) × (o ≡ Some b)
   unfit : cond v (cond w (Err CellsUnfit) (judged o (cells-in m))) (Err CellsUnfit) ≡ Err CellsUnfit → v ≡ true → w ≡ true
 
 asked : (m : List ℕ) (v w : Bool) (o : Option ℕ) → Asked m v w o
 asked m false w o = record { accepted = λ c e. absurd (let z : _≡_ {A = ℕ} 0 1 = cc in omega arith); named = λ b e. absurd (let z : _≡_ {A = ℕ} 0 1 = cc in omega arith); unfit = λ e h. absurd (let z : _≡_ {A = ℕ} 0 1 = cc in omega arith) }
 asked m true true o = record { accepted = λ c e. absurd (let z : _≡_ {A = ℕ} 0 1 = cc in omega arith); named = λ b e. absurd (let z : _≡_ {A = ℕ} 0 1 = cc in omega arith); unfit = λ e h. refl }
 asked m true false None = record { accepted = λ c e. (refl, refl, refl, cc); named = λ b e. absurd (let z : _≡_ {A = ℕ} 0 1 = cc in omega arith); unfit = λ e h. absurd (let z : _≡_ {A = ℕ} 0 1 = cc in omega arith) }
-asked m true false (Some k) = record { accepted = λ c e. absurd (let z : _≡_ {A = ℕ} 0 1 = cc in omega arith); named = λ b e. cc; unfit = λ e h. absurd (let z : _≡_ {A = ℕ} 0 1 = cc in omega arith) }
+asked m true false (Some k) = record { accepted = λ c e. absurd (let z : _≡_ {A = ℕ} 0 1 = cc in omega arith); named = λ b e. (refl, refl, cc); unfit = λ e h. absurd (let z : _≡_ {A = ℕ} 0 1 = cc in omega arith) }
 
 pub cell-law : (m : List ℕ) → Cell-law m
 cell-law m =
@@ -97,9 +97,10 @@ cell-law m =
           let h = subst (Told 0 (cells-in m) m) (q .2) t in
           (omega arith, omega arith, subst (λ (k : ℕ). (i : ℕ) → i < k → cell-good (eqb (i + 1) (cells-in m)) (take 48 (drop (i * 48) m)) ≡ true) n h);
       named = λ b e.
-          let h = subst (Told 0 (cells-in m) m) (a .named b e) t in
+          let h = subst (Told 0 (cells-in m) m) (a .named b e .2) t in
           let n : h .0 ≡ b = let k = h .1 in omega arith in
           let k : Named (cells-in m) m b = subst (Named (cells-in m) m) n (h .2) in
-          (k .within, k .bad, k .earlier);
+          (eqb-true _ _ (a .named b e .0), ltb-false _ _ (a .named b e .1), k .within, k .bad, k .earlier);
       unfit = λ e w. ltb-true _ _ (a .unfit e (eq-eqb _ _ w));
+      shown = nth-in-cells (cells-in m) m;
     }

@@ -10,7 +10,7 @@ use Rattle.std.specs.declared.result.Result.the-variants.{Ok, Err}
 use Rattle.std.specs.declared.option.Option.{Option}
 use Rattle.std.specs.declared.option.Option.the-variants.{Some, None}
 use Rattle.rules.specs.Lines.{Line}
-use Rattle.rules.specs.Texts.{is-line}
+use Rattle.rules.specs.Texts.{is-line, nth-line}
 use Rattle.sheet.specs.declared.refusal.SheetRefusal.{SheetRefusal}
 use Rattle.sheet.specs.declared.refusal.SheetRefusal.the-variants.{CellsUnfit, BadCell}
 
@@ -64,8 +64,9 @@ nth-cell memory n = take cell-size (drop (n * cell-size) memory)
 abbrev pub holds-line : List ℕ → ℕ → Bool
 holds-line memory n = cell-good (eqb (n + 1) (cells-in memory)) (nth-cell memory n)
 
--- What an answer says of the cells: all hold lines, or the one that is named is the first that holds none.
+-- What an answer says of the cells: all hold lines, or the one that is named is the first that holds none. Line n of a memory is that of cell n.
 pub record Cell-law (memory : List ℕ) : Type 0 where
   pub accepted : (c : ℕ) → cells-answer memory ≡ Ok c → (length memory ≡ c * cell-size) × (c ≤ max-cells) × ((n : ℕ) → n < c → holds-line memory n ≡ true)
-  pub named : (b : ℕ) → cells-answer memory ≡ Err (BadCell b) → (b < cells-in memory) × (holds-line memory b ≡ false) × ((n : ℕ) → n < b → holds-line memory n ≡ true)
+  pub named : (b : ℕ) → cells-answer memory ≡ Err (BadCell b) → (length memory % cell-size ≡ 0) × (cells-in memory ≤ max-cells) × (b < cells-in memory) × (holds-line memory b ≡ false) × ((n : ℕ) → n < b → holds-line memory n ≡ true)
   pub unfit : cells-answer memory ≡ Err CellsUnfit → (length memory % cell-size ≡ 0) → max-cells < cells-in memory
+  pub shown : (n : ℕ) → n < cells-in memory → nth-line (memory-lines memory) n ≡ Some (cell-line (nth-cell memory n))

@@ -1,5 +1,5 @@
 -- Split and the text sheet: what they ask, answer and leave.
-use Prim.Native.Nat.{ℕ}
+use Prim.Native.Nat.{ℕ, _≤_, _<_}
 use mathlib.Core.Path.{_≡_}
 use mathlib.Core.Bool.{Bool, true, false, cond}
 use mathlib.Core.List.{List, [], _∷_, _++_}
@@ -51,6 +51,15 @@ text-answer text table =
     (cond (ltb max-lines (length (text-lines text))) (Err TooManyLines)
     (cond (ltb (length table) (length (text-lines text))) (Err TableTooSmall)
     (cond (same (take (length (text-lines text)) table) (starts-of text)) (Ok (length (text-lines text))) (Err StartsAbsent))))
+
+-- What an answer says of a text and its table: all is within the limits and the table begins with the line starts, or the first question
+-- that is named fails and those before it do not.
+pub record Text-law (text table : List ℕ) : Type 0 where
+  pub accepted : (n : ℕ) → text-answer text table ≡ Ok n → (length text ≤ max-bytes) × (n ≤ max-lines) × (n ≡ length (text-lines text)) × (take n table ≡ starts-of text)
+  pub too-long : text-answer text table ≡ Err TextTooLong → max-bytes < length text
+  pub too-many : text-answer text table ≡ Err TooManyLines → (length text ≤ max-bytes) × (max-lines < length (text-lines text))
+  pub too-small : text-answer text table ≡ Err TableTooSmall → (length text ≤ max-bytes) × (length (text-lines text) ≤ max-lines) × (length table < length (text-lines text))
+  pub absent : text-answer text table ≡ Err StartsAbsent → (length text ≤ max-bytes) × (length (text-lines text) ≤ max-lines) × (length (text-lines text) ≤ length table) × (take (length (text-lines text)) table ≡ starts-of text → ⊥)
 
 -- The lines of a sheet after an opening: the new ones, or after a refusal the old ones.
 abbrev pub lines-after : Result ℕ SheetRefusal → List Line → List Line → List Line

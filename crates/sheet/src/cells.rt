@@ -7,6 +7,7 @@ ghost use Rattle.std.specs.Results.{isOk};
 ghost use Rattle.rules.specs.Texts.{Formed};
 ghost use Rattle.sheet.specs.Cells.{memory-lines, cells-answer};
 
+mod opening;
 mod ops;
 
 pub use crate::cells::ops::SheetOfCells;

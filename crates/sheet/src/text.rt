@@ -5,6 +5,7 @@ ghost use denote.Ref.{now};
 ghost use Rattle.rules.specs.Texts.{Formed, text-lines};
 ghost use Rattle.sheet.specs.Starts.{starts-of};
 
+mod opening;
 mod ops;
 
 pub use crate::text::ops::SheetOfText;

@@ -1,7 +1,7 @@
 use mathlib.Core.Path.{sym, ap, _∙_}
 use mathlib.Core.Bool.{not, true, false}
 use Rattle.sheet.proofs.CellLaws.{walk-first, walk-more, walk-broken, stops-ended, stops-open, stops-fresh}
-use Rattle.sheet.proofs.cells.ops.line_stands.Needs as need
+use Rattle.sheet.proofs.cells.opening.line_stands.Needs as need
 
 pub loop-b-holds : need.loop-b-holds
 loop-b-holds c = walk-first (c .args .«open») (c .args .line .now)

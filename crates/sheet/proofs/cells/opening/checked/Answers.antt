@@ -4,7 +4,7 @@ use mathlib.Core.Bool.{true, false}
 use mathlib.Core.Path.{sym, _∙_}
 use lib.ListN.{length}
 use Rattle.sheet.proofs.CellLaws.{bad-step, answer-bad}
-use Rattle.sheet.proofs.cells.ops.checked.Needs as need
+use Rattle.sheet.proofs.cells.opening.checked.Needs as need
 
 pub returns-then-not-cell-stands : need.returns-then-not-cell-stands
 returns-then-not-cell-stands c =
