@@ -1,7 +1,7 @@
 -- What a cut keeps, and how long its parts are.
-use Prim.Native.Nat.{ℕ, zero, suc, _+_, _-_, _≤_, _<_}
-use mathlib.Core.Path.{_≡_, refl, sym, _∙_, ap, ap₂, subst}
-use mathlib.Core.Bool.{Bool, true, false, cond}
+use Prim.Native.Nat.{ℕ, zero, suc, _+_, _≤_, _<_}
+use mathlib.Core.Path.{_≡_, refl, sym, _∙_, ap, subst}
+use mathlib.Core.Bool.{false}
 use mathlib.Core.List.{List, [], _∷_, _++_, reverse}
 use native.Mathlib.Omega.{arith}
 use lib.Dec.{eqb}
@@ -15,12 +15,13 @@ use Rattle.rules.specs.declared.hunk.Side.the-variants.{Current, Other, Ancesto
 use Rattle.rules.specs.declared.hunk.Span.{Span}
 use Rattle.rules.specs.declared.hunk.Hunk.{Hunk}
 use Rattle.contract.specs.Places.{ahead-at, front-place, back-place, behind-at, Placed}
-use Rattle.contract.specs.Removed.{removed-of, counts-of}
+use Rattle.contract.specs.Ends.{removed-of, counts-of}
 use Rattle.reading.specs.Reading.{no-hunk, Readable}
 use Rattle.rules.specs.Contraction.{size, read-range, reading, first-lines, later-lines, cut-front, cut-back, Contracted, contracted, trimmed}
 use Rattle.rules.specs.Hunks.{Sheets, side-lines, sheet-of}
-use Rattle.rules.specs.Lines.{Line, same-line}
+use Rattle.rules.specs.Lines.{Line}
 use Rattle.rules.specs.SharedLines.{shared-front, shared-back}
+use Rattle.rules.proofs.Shared.{front-le}
 use Rattle.contract.proofs.Places.{Cut-at, front-cut, back-cut, front-placed, back-placed}
 use Rattle.contract.proofs.Cutting.{placed-inside, ahead-few, behind-length}
 
@@ -71,16 +72,9 @@ back-behind n hs p e =
     (subst (λ (q : ℕ × ℕ). Placed (q .0) (q .1) hs) (sym e) (back-placed n hs), subst (λ (q : ℕ × ℕ). Cut-at (cut-back n hs) q hs) (sym e) (back-cut n hs))
 
 -- no more lines are shared than there are
-shared-few : (xs ys : List Line) → (shared-front xs ys ≤ length xs) × (shared-front xs ys ≤ length ys)
-shared-few [] ys = (omega arith, omega arith)
-shared-few (x ∷ xs) [] = (omega arith, omega arith)
-shared-few (x ∷ xs) (y ∷ ys) =
-    let i = shared-few xs ys in
-    cond-both (same-line x y) (suc (shared-front xs ys)) 0 (λ n. (n ≤ suc (length xs)) × (n ≤ suc (length ys))) (λ e. (omega (arith, i .0), omega (arith, i .1))) (λ e. (omega arith, omega arith))
-
 pub shared-back-few : (xs ys : List Line) → (shared-back xs ys ≤ length xs) × (shared-back xs ys ≤ length ys)
 shared-back-few xs ys =
-    let i = shared-few (reverse xs) (reverse ys) in
+    let i = front-le (reverse xs) (reverse ys) in
     let p = i .0 in
     let q = i .1 in
     let a = length-reverse xs in

@@ -1,6 +1,6 @@
 -- Lists that are cut in their place.
 use Prim.Native.Nat.{ℕ, zero, suc, _+_, _-_, _≤_, _<_}
-use mathlib.Core.Path.{_≡_, refl, sym, _∙_, ap, ap₂, subst}
+use mathlib.Core.Path.{_≡_, refl, sym, _∙_, ap, ap₂}
 use mathlib.Core.Bool.{Bool, true, false, cond}
 use mathlib.Core.List.{List, [], _∷_, _++_}
 use native.Mathlib.Omega.{arith}
@@ -11,13 +11,12 @@ use Rattle.std.proofs.shelf.Lists.{append-assoc, length-append, length-take-le,
 use mathlib.Core.Logic.{⊎-elim}
 use Rattle.std.proofs.shelf.Maps.{nth-getD, nth-past}
 use Rattle.std.specs.shelf.Maps.{nth}
-use Rattle.std.specs.declared.option.Option.{Option}
 use Rattle.std.specs.declared.option.Option.the-variants.{Some, None}
 use Rattle.std.proofs.shelf.Tests.{cases-lt, ne-eqb, eq-eqb, cond-true, cond-false, cond-both}
 use Rattle.rules.specs.declared.hunk.Hunk.{Hunk}
 use Rattle.contract.specs.Places.{ahead-at, behind-at, Placed}
 use Rattle.reading.specs.Reading.{no-hunk}
-use Rattle.rules.specs.Contraction.{size, first-lines, later-lines}
+use Rattle.rules.specs.Contraction.{first-lines, later-lines}
 use Rattle.reading.proofs.Backs.{inside}
 
 pub placed-inside : (w k : ℕ) (hs : List Hunk) → Placed w k hs → 0 < k → w < length hs

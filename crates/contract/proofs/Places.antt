@@ -1,6 +1,6 @@
 -- Where a cut falls, and what it leaves ahead and behind.
-use Prim.Native.Nat.{ℕ, zero, suc, _+_, _-_, _≤_, _<_}
-use mathlib.Core.Path.{_≡_, refl, sym, _∙_, ap, ap₂, subst}
+use Prim.Native.Nat.{ℕ, suc, _+_, _-_, _≤_, _<_}
+use mathlib.Core.Path.{_≡_, refl, sym, _∙_, ap}
 use mathlib.Core.Bool.{Bool, true, false, cond, _&&_, not}
 use mathlib.Core.List.{List, [], _∷_, _++_}
 use mathlib.Core.Logic.{_⊎_, inl, inr, ⊎-elim}
@@ -8,11 +8,11 @@ use native.Mathlib.Omega.{arith}
 use lib.Dec.{leb, eqb}
 use lib.ListN.{length, take, drop, getD}
 use Rattle.std.proofs.shelf.Lists.{at-drop-more, at-drop-all}
-use Rattle.std.proofs.shelf.Tests.{leb-true, leb-false, le-leb, lt-leb, eqb-true, eq-eqb, ne-eqb, and-parts, and-cases, and-from, and-left, and-right, not-false, not-from-true, not-from-false, cond-true, cond-false}
+use Rattle.std.proofs.shelf.Tests.{leb-false, le-leb, lt-leb, eqb-true, eq-eqb, ne-eqb, and-cases, and-from, and-left, and-right, not-false, not-from-true, not-from-false, cond-true, cond-false}
 use Rattle.rules.specs.declared.hunk.Hunk.{Hunk}
 use Rattle.contract.specs.Places.{one-more, front-place, back-place, ahead-at, behind-at, Placed}
 use Rattle.reading.specs.Reading.{no-hunk}
-use Rattle.rules.specs.Contraction.{size, first-lines, later-lines, Cut, ahead-more, cut-here, cut-front, cut-back}
+use Rattle.rules.specs.Contraction.{size, first-lines, Cut, ahead-more, cut-here, cut-front, cut-back}
 
 -- so many hunks more
 abbrev pub plus : ℕ → ℕ × ℕ → ℕ × ℕ

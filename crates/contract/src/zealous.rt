@@ -1,15 +1,13 @@
-ghost use Prim.Native.Nat.{ℕ, _+_, _-_, _≤_};
+ghost use Prim.Native.Nat.{ℕ, _+_, _≤_};
 ghost use mathlib.Core.Path.{_≡_};
 ghost use mathlib.Core.List.{_++_};
 ghost use lib.ListN.{length};
 ghost use Rattle.std.specs.shelf.Lists.{All};
 ghost use Rattle.rules.specs.Limits.{max-removed};
-ghost use Rattle.rules.specs.SharedLines.{shared-front, shared-back};
-ghost use Rattle.rules.specs.Hunks.{side-lines};
-ghost use Rattle.rules.specs.Contraction.{cut-front, cut-back, contracted};
+ghost use Rattle.rules.specs.Contraction.{contracted};
 ghost use Rattle.hunks.specs.Lists.{held};
 ghost use Rattle.reading.specs.Reading.{Readable};
-ghost use Rattle.contract.specs.Removed.{removed-of, counts-of};
+ghost use Rattle.contract.specs.Ends.{shared-front-cut, shared-back-cut, removed-of, counts-of};
 use crate::list::gain_back;
 use crate::list::gain_front;
 use crate::list::lose_back;
@@ -31,9 +29,9 @@ fn contract_front<T: ThreeSheets>(
 )
     requires ours { ⌜ All (Readable (T·ThreeSheets .sheets (now three))) (held (now lead)) ⌝ }
     requires theirs { ⌜ All (Readable (T·ThreeSheets .sheets (now three))) (held (now facing)) ⌝ }
-    ensures lead { λ _. ⌜ held (now (lead .exit)) ≡ cut-front (shared-front (side-lines (T·ThreeSheets .sheets (now (three .entry))) (held (now (lead .entry)))) (side-lines (T·ThreeSheets .sheets (now (three .entry))) (held (now (facing .entry))))) (held (now (lead .entry))) .behind ⌝ }
-    ensures facing { λ _. ⌜ held (now (facing .exit)) ≡ cut-front (shared-front (side-lines (T·ThreeSheets .sheets (now (three .entry))) (held (now (lead .entry)))) (side-lines (T·ThreeSheets .sheets (now (three .entry))) (held (now (facing .entry))))) (held (now (facing .entry))) .behind ⌝ }
-    ensures removed { λ _. ⌜ held (now (removed .exit)) ≡ cut-front (shared-front (side-lines (T·ThreeSheets .sheets (now (three .entry))) (held (now (lead .entry)))) (side-lines (T·ThreeSheets .sheets (now (three .entry))) (held (now (facing .entry))))) (held (now (lead .entry))) .ahead ⌝ }
+    ensures lead { λ _. ⌜ held (now (lead .exit)) ≡ shared-front-cut (T·ThreeSheets .sheets (now (three .entry))) (held (now (lead .entry))) (held (now (facing .entry))) (held (now (lead .entry))) .behind ⌝ }
+    ensures facing { λ _. ⌜ held (now (facing .exit)) ≡ shared-front-cut (T·ThreeSheets .sheets (now (three .entry))) (held (now (lead .entry))) (held (now (facing .entry))) (held (now (facing .entry))) .behind ⌝ }
+    ensures removed { λ _. ⌜ held (now (removed .exit)) ≡ shared-front-cut (T·ThreeSheets .sheets (now (three .entry))) (held (now (lead .entry))) (held (now (facing .entry))) (held (now (lead .entry))) .ahead ⌝ }
 {
     let n = shared_front(three, lead.as_slice(), facing.as_slice());
     removed.truncate(0);
@@ -52,9 +50,9 @@ fn contract_back<T: ThreeSheets>(
     requires ours { ⌜ All (Readable (T·ThreeSheets .sheets (now three))) (held (now lead)) ⌝ }
     requires theirs { ⌜ All (Readable (T·ThreeSheets .sheets (now three))) (held (now facing)) ⌝ }
     requires room { ⌜ length (held (now removed)) + length (held (now lead)) ≤ max-removed ⌝ }
-    ensures lead { λ _. ⌜ held (now (lead .exit)) ≡ cut-back (length (side-lines (T·ThreeSheets .sheets (now (three .entry))) (held (now (lead .entry)))) - shared-back (side-lines (T·ThreeSheets .sheets (now (three .entry))) (held (now (lead .entry)))) (side-lines (T·ThreeSheets .sheets (now (three .entry))) (held (now (facing .entry))))) (held (now (lead .entry))) .ahead ⌝ }
-    ensures facing { λ _. ⌜ held (now (facing .exit)) ≡ cut-back (length (side-lines (T·ThreeSheets .sheets (now (three .entry))) (held (now (facing .entry)))) - shared-back (side-lines (T·ThreeSheets .sheets (now (three .entry))) (held (now (lead .entry)))) (side-lines (T·ThreeSheets .sheets (now (three .entry))) (held (now (facing .entry))))) (held (now (facing .entry))) .ahead ⌝ }
-    ensures removed { λ _. ⌜ held (now (removed .exit)) ≡ held (now (removed .entry)) ++ cut-back (length (side-lines (T·ThreeSheets .sheets (now (three .entry))) (held (now (lead .entry)))) - shared-back (side-lines (T·ThreeSheets .sheets (now (three .entry))) (held (now (lead .entry)))) (side-lines (T·ThreeSheets .sheets (now (three .entry))) (held (now (facing .entry))))) (held (now (lead .entry))) .behind ⌝ }
+    ensures lead { λ _. ⌜ held (now (lead .exit)) ≡ shared-back-cut (T·ThreeSheets .sheets (now (three .entry))) (held (now (lead .entry))) (held (now (facing .entry))) (held (now (lead .entry))) .ahead ⌝ }
+    ensures facing { λ _. ⌜ held (now (facing .exit)) ≡ shared-back-cut (T·ThreeSheets .sheets (now (three .entry))) (held (now (lead .entry))) (held (now (facing .entry))) (held (now (facing .entry))) .ahead ⌝ }
+    ensures removed { λ _. ⌜ held (now (removed .exit)) ≡ held (now (removed .entry)) ++ shared-back-cut (T·ThreeSheets .sheets (now (three .entry))) (held (now (lead .entry))) (held (now (facing .entry))) (held (now (lead .entry))) .behind ⌝ }
 {
     let n = shared_back(three, lead.as_slice(), facing.as_slice());
     let ours = count_lines(lead.as_slice()) - n;

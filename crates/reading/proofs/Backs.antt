@@ -1,30 +1,26 @@
 -- Two cursors that go back over two lists of hunks, as long as their lines are equal.
-use Prim.Native.Nat.{ℕ, zero, suc, _+_, _-_, _*_, _≤_, _<_}
-use mathlib.Core.Path.{_≡_, refl, sym, _∙_, ap, ap₂, subst}
-use mathlib.Core.Bool.{Bool, true, false, cond}
+use Prim.Native.Nat.{ℕ, _+_, _-_, _≤_, _<_}
+use mathlib.Core.Path.{_≡_, refl, sym, _∙_, ap, ap₂}
+use mathlib.Core.Bool.{true, false}
 use mathlib.Core.List.{List, [], _∷_, _++_, reverse}
 use native.Mathlib.Omega.{arith}
-use lib.ListN.{length, take, drop, getD}
+use lib.ListN.{length, take, getD}
 use Rattle.std.specs.shelf.Lists.{All}
 use Rattle.std.proofs.shelf.Lists.{append-nil, append-assoc, take-all, take-more, reverse-append, length-reverse, length-append, getD-past}
 use Rattle.std.proofs.shelf.Elements.{all-getD}
 use Rattle.std.proofs.shelf.Tests.{cases-lt}
-use mathlib.Core.Logic.{_⊎_, inl, inr, ⊎-elim}
+use mathlib.Core.Logic.{⊎-elim}
 use Rattle.rules.specs.declared.hunk.Hunk.{Hunk}
 use Rattle.rules.specs.Contraction.{size}
 use Rattle.rules.specs.Hunks.{Sheets, hunk-lines, side-lines}
 use Rattle.rules.specs.Lines.{Line, same-line}
-use Rattle.rules.specs.SharedLines.{shared-front, shared-back}
+use Rattle.rules.specs.SharedLines.{shared-back}
 use Rattle.rules.specs.Limits.{max-filled}
 use Rattle.reading.specs.Three.{All-formed}
 use Rattle.reading.specs.Reading.{no-hunk, Readable}
+use Rattle.rules.proofs.Texts.{side-lines-append}
 use Rattle.reading.proofs.Reading.{whole, few-lines}
 use Rattle.reading.proofs.Fronts.{Run, run-same, run-more, run-stop, run-end-left, run-end-right}
-
-pub side-lines-append : (s : Sheets) (xs ys : List Hunk) → side-lines s (xs ++ ys) ≡ side-lines s xs ++ side-lines s ys
-side-lines-append s [] ys = refl
-side-lines-append s (x ∷ xs) ys =
-    ap (λ (v : List Line). hunk-lines s x ++ v) (side-lines-append s xs ys) ∙ sym (append-assoc (hunk-lines s x) (side-lines s xs) (side-lines s ys))
 
 -- the lines of the first i hunks, and the first k of the next one
 abbrev pub upto : Sheets → List Hunk → ℕ → ℕ → List Line

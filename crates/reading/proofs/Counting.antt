@@ -1,5 +1,5 @@
 -- Numbers of lines.
-use Prim.Native.Nat.{ℕ, zero, suc, _+_, _-_, _*_, _≤_, _<_}
+use Prim.Native.Nat.{ℕ, suc, _+_, _≤_, _<_}
 use mathlib.Core.Path.{_≡_, refl, sym, _∙_, ap, ap₂}
 use mathlib.Core.Bool.{Bool, true, false, cond, _&&_, _||_, not}
 use mathlib.Core.List.{List, [], _∷_, _++_}
@@ -8,7 +8,7 @@ use lib.Dec.{eqb, ltb}
 use lib.ListN.{length, length-append}
 use mathlib.Core.Logic.{⊎-elim}
 use Rattle.std.specs.shelf.Lists.{All}
-use Rattle.std.proofs.shelf.Tests.{eq-eqb, ne-eqb, eqb-true, cases-eq, and-left, or-left, lt-ltb}
+use Rattle.std.proofs.shelf.Tests.{eq-eqb, ne-eqb, cases-eq, and-left, or-left, lt-ltb}
 use Rattle.rules.specs.declared.hunk.Hunk.{Hunk}
 use Rattle.rules.specs.Contraction.{size}
 use Rattle.rules.specs.Hunks.{Sheets, side-lines, hunk-lines}

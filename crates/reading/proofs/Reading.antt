@@ -1,28 +1,23 @@
 -- Lines of a hunk, and of a list of hunks from a cursor on.
 use Prim.Native.Nat.{ℕ, zero, suc, _+_, _-_, _*_, _≤_, _<_}
-use mathlib.Core.Path.{_≡_, refl, sym, _∙_, ap, subst}
-use mathlib.Core.Bool.{Bool, true, false, cond}
+use mathlib.Core.Path.{_≡_, refl, sym, _∙_, ap}
 use mathlib.Core.List.{List, [], _∷_, _++_}
 use native.Mathlib.Omega.{arith}
-use native.Mathlib.Numerals.{add-one}
-use lib.ListN.{length, take, drop, getD, length-drop, length-append}
+use lib.ListN.{length, drop, getD, length-drop, length-append}
 use Rattle.std.specs.shelf.Lists.{All}
 use Rattle.std.proofs.shelf.Lists.{at-drop-more, at-drop-all, length-take-le, getD-take, getD-drop, drop-all, drop-more}
 use Rattle.std.proofs.shelf.Elements.{all-getD}
-use Rattle.std.specs.declared.option.Option.{Option}
 use Rattle.std.specs.declared.option.Option.the-variants.{Some, None}
 use Rattle.rules.specs.declared.hunk.Side.{Side}
 use Rattle.rules.specs.declared.hunk.Side.the-variants.{Current, Other, Ancestor}
-use Rattle.rules.specs.declared.hunk.Span.{Span}
 use Rattle.rules.specs.declared.hunk.Hunk.{Hunk}
 use Rattle.rules.specs.Contraction.{read-range, size}
 use Rattle.rules.specs.Limits.{max-lines}
 use Rattle.rules.specs.Hunks.{Sheets, hunk-lines, lines-by, side-lines, sheet-of}
-use Rattle.rules.specs.Lines.{Line, between, same-line}
-use Rattle.rules.specs.SharedLines.{shared-front}
+use Rattle.rules.specs.Lines.{Line, between}
 use Rattle.rules.specs.Texts.{nth-line}
 use Rattle.reading.specs.Three.{All-formed}
-use Rattle.reading.specs.Reading.{no-hunk, Readable, line-count}
+use Rattle.reading.specs.Reading.{no-hunk, Readable}
 
 pub nth-some : (ls : List Line) (n : ℕ) (l : Line) → Some l ≡ nth-line ls n → l ≡ getD ls n []
 nth-some [] n l e = let z : _≡_ {A = ℕ} 0 1 = cc in absurd (omega arith)

@@ -5,6 +5,7 @@ ghost use lib.ListN.{getD};
 ghost use Rattle.rules.specs.Hunks.{hunk-lines, sheet-of};
 ghost use Rattle.rules.specs.Contraction.{read-range, size};
 ghost use Rattle.reading.specs.Reading.{line-count, any-lines};
+ghost use Rattle.reading.specs.Counts.{Counts-stand};
 use crate::three::ThreeSheets;
 use rules::hunk::Hunk;
 use rules::hunk::Side;
@@ -68,4 +69,11 @@ pub fn contains_lines(hunks: &[Hunk]) -> bool
         }
     }
     false
+}
+
+/// What `count_lines` and `contains_lines` tell of hunks is true of the lines that these stand for.
+pub fn counts_stand() -> u8
+    ensures { λ _. ⌜ Counts-stand ⌝ }
+{
+    0
 }

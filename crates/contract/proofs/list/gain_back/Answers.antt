@@ -1,11 +1,9 @@
-use Prim.Native.Nat.{ℕ, _+_, _≤_}
-use mathlib.Core.Path.{_≡_, refl, sym, _∙_, ap, subst}
+use mathlib.Core.Path.{sym, _∙_, ap}
 use mathlib.Core.List.{List, _++_}
 use native.Mathlib.Omega.{arith}
 use borrow.Author.Needs.{needs}
 use lib.ListN.{length}
 use Rattle.rules.specs.declared.hunk.Hunk.{Hunk}
-use Rattle.contract.specs.Places.{back-place}
 use Rattle.hunks.specs.Lists.{held}
 use Rattle.contract.proofs.Contracting.{back-behind}
 use Rattle.contract.proofs.list.gain_back.Needs as need

@@ -1,10 +1,5 @@
-use Prim.Native.Nat.{ℕ, _+_, _≤_}
-use mathlib.Core.Path.{_≡_, refl, sym, _∙_, ap, subst}
-use mathlib.Core.List.{List, _++_}
-use native.Mathlib.Omega.{arith}
+use mathlib.Core.Path.{sym, _∙_, ap}
 use borrow.Author.Needs.{needs}
-use lib.ListN.{length}
-use Rattle.rules.specs.declared.hunk.Hunk.{Hunk}
 use Rattle.contract.specs.Places.{front-place}
 use Rattle.hunks.specs.Lists.{held}
 use Rattle.contract.proofs.Contracting.{front-behind}

@@ -1,10 +1,8 @@
 use native.Mathlib.Omega.{arith}
-use mathlib.Core.Path.{_≡_, refl, sym, _∙_, ap, subst}
-use Prim.Native.Nat.{ℕ, _+_, _-_}
-use lib.ListN.{drop, getD}
+use mathlib.Core.Path.{_≡_, sym, subst}
+use Prim.Native.Nat.{_+_, _-_}
+use lib.ListN.{drop}
 use Rattle.contract.specs.Places.{back-place}
-use Rattle.reading.specs.Reading.{no-hunk}
-use Rattle.rules.specs.Contraction.{size}
 use Rattle.contract.proofs.Places.{plus, back-go, back-halt, back-last}
 use Rattle.contract.proofs.place.back_place.Needs as need
 

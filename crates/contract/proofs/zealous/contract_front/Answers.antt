@@ -1,5 +1,5 @@
 use native.Mathlib.Omega.{arith}
-use mathlib.Core.Path.{_≡_, refl, sym, _∙_, ap}
+use mathlib.Core.Path.{ap}
 use mathlib.Core.List.{List}
 use lib.Dec.{lit<}
 use lib.ListN.{length}

@@ -1,6 +1,5 @@
-use Prim.Native.Nat.{ℕ, _+_, _≤_}
 use native.Mathlib.Omega.{arith}
-use mathlib.Core.Path.{_≡_, refl, sym, _∙_, ap}
+use mathlib.Core.Path.{ap}
 use lib.ListN.{length}
 use Rattle.hunks.specs.Lists.{held}
 use Rattle.rules.specs.Hunks.{side-lines}

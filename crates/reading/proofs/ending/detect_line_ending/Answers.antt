@@ -1,5 +1,4 @@
-use mathlib.Core.Path.{_≡_, sym, _∙_}
-use borrow.Author.Needs.{needs}
+use mathlib.Core.Path.{_∙_}
 use Rattle.std.specs.Parts.{iter-rest}
 use Rattle.reading.proofs.Detecting.{by-after, by-before, go-back, none-left}
 use Rattle.reading.proofs.ending.detect_line_ending.Needs as need

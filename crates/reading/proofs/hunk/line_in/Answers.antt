@@ -1,5 +1,5 @@
-use mathlib.Core.Path.{_≡_, sym, _∙_, ap}
-use Prim.Native.Nat.{ℕ, _+_}
+use mathlib.Core.Path.{sym, _∙_, ap}
+use Prim.Native.Nat.{_+_}
 use mathlib.Core.List.{[]}
 use lib.ListN.{getD}
 use Rattle.rules.specs.declared.hunk.Span.{Span}

@@ -1,8 +1,4 @@
-use Prim.Native.Nat.{ℕ, _≤_, _<_}
-use mathlib.Core.Path.{_≡_, refl, sym, _∙_, ap, ap₂}
-use mathlib.Core.Bool.{Bool, true, false, not, _&&_}
-use native.Mathlib.Omega.{arith}
-use lib.Dec.{eqb}
+use mathlib.Core.Path.{sym, _∙_}
 use Rattle.rules.specs.Hunks.{side-lines}
 use Rattle.reading.proofs.Counting.{few-counted, counted, differ-first, differ-last}
 use Rattle.reading.proofs.shared.hunks_differ.Needs as need

@@ -1,10 +1,7 @@
-use mathlib.Core.Path.{_≡_, refl, sym, _∙_, ap, ap₂, subst}
-use Prim.Native.Nat.{ℕ, _≤_, _<_, _-_}
+use mathlib.Core.Path.{sym, _∙_, ap₂, subst}
+use Prim.Native.Nat.{_<_, _-_}
 use native.Mathlib.Omega.{arith}
-use lib.ListN.{getD}
-use Rattle.rules.specs.Contraction.{size}
 use Rattle.rules.specs.Lines.{same-line}
-use Rattle.reading.specs.Reading.{no-hunk}
 use Rattle.reading.proofs.Backs.{Back, behind-of, back-start, back-skip-left, back-skip-right, back-inside, back-more, back-stop, back-end-left, back-end-right, back-small}
 use Rattle.reading.proofs.shared.shared_back.Needs as need
 

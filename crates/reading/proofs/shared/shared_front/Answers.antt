@@ -1,11 +1,11 @@
-use mathlib.Core.Path.{_≡_, refl, sym, _∙_, ap, ap₂}
-use Prim.Native.Nat.{_≤_, _<_}
+use mathlib.Core.Path.{sym, _∙_, ap₂}
+use Prim.Native.Nat.{_<_}
 use native.Mathlib.Omega.{arith}
 use lib.ListN.{getD}
 use Rattle.rules.specs.Contraction.{size}
 use Rattle.rules.specs.Lines.{same-line}
 use Rattle.reading.specs.Reading.{no-hunk}
-use Rattle.reading.proofs.Fronts.{Front, front-skip-left, front-skip-right, front-more, front-stop, front-end-left, front-end-right, front-small}
+use Rattle.reading.proofs.Fronts.{front-skip-left, front-skip-right, front-more, front-stop, front-end-left, front-end-right, front-small}
 use Rattle.reading.proofs.shared.shared_front.Needs as need
 
 pub run-again-then-k-lines-of : need.run-again-then-k-lines-of
