@@ -37,7 +37,11 @@ our-run cs os k = runs Current (length (k .0 .ancestor)) (length (k .0 .current)
 pub their-run : (cs os : List Hunk) → Kept-hunks cs os → Run Other 0 os
 their-run cs os k = runs Other (length (k .0 .ancestor)) (length (k .0 .other)) 0 0 os (k .1 .other)
 
--- Each member of a cluster is of one of the two sides.
+-- What holds of each hunk of both sides holds of each member of the first cluster.
+pub members-all : (P : Hunk → Type 0) (cs os : List Hunk) → All P cs → All P os → (m n : ℕ) (t : Taken cs os m n) → All P (members (t .cluster))
+members-all P cs os pc po m n t = subst (All-members P) (t .walked) (clusters-all P (walk cs os) (walk-all P cs os pc po)) .0
+
+-- Each member is of one of the two sides.
 abbrev Of-sides : Hunk → Type 0
 Of-sides h = Sided (h .side)
 
@@ -45,9 +49,8 @@ run-sided : (s : Side) (n : ℕ) (hs : List Hunk) → Sided s → Run s n hs →
 run-sided s n [] p r = tt
 run-sided s n (h ∷ hs) p r = (subst Sided (sym (r .0)) p, run-sided s (suc (h .before .end)) hs p (r .3))
 
-members-sided : (cs os : List Hunk) → Kept-hunks cs os → (k : Cluster) (ks : List Cluster) → clusters (walk cs os) ≡ k ∷ ks → All Of-sides (members k)
-members-sided cs os kept k ks e =
-    subst (All-members Of-sides) e (clusters-all Of-sides (walk cs os) (walk-all Of-sides cs os (run-sided Current 0 cs tt (our-run cs os kept)) (run-sided Other 0 os tt (their-run cs os kept)))) .0
+members-sided : (cs os : List Hunk) → Kept-hunks cs os → (m n : ℕ) (t : Taken cs os m n) → All Of-sides (members (t .cluster))
+members-sided cs os kept = members-all Of-sides cs os (run-sided Current 0 cs tt (our-run cs os kept)) (run-sided Other 0 os tt (their-run cs os kept))
 
 -- So its members are those of the two sides, in number and in ends.
 pub record Parts (ms : List Hunk) : Type 0 where
@@ -67,6 +70,12 @@ parts (h ∷ hs) p =
     let r = parts hs (p .1) in
     let m = parts-more h (length hs) (last-end hs) (currents hs) (others hs) (h .side) (p .0) (r .number) (r .ends) in
     record { number = m .0; ends = m .1 }
+
+-- A cluster's range ends where the last of its hunks does.
+pub to-is : (cs os : List Hunk) → Kept-hunks cs os → (m n : ℕ) (t : Taken cs os m n) → to (t .cluster) ≡ max (last-end (take m cs)) (last-end (take n os))
+to-is cs os kept m n t =
+    parts (members (t .cluster)) (members-sided cs os kept m n t) .ends
+    ∙ ap₂ (λ (xs ys : List Hunk). max (last-end xs) (last-end ys)) (t .ours) (t .theirs)
 
 -- The cluster's first hunk leads the walk.
 same-lead : (a b : Hunk) (xs : List Hunk) → nth (a ∷ xs) 0 ≡ Some b → a ≡ b
@@ -117,7 +126,7 @@ module _ (cs os : List Hunk) (kept : Kept-hunks cs os) (first : Hunk) (lead : nt
   pub lone-group : (m n : ℕ) (t : Taken cs os m n) → m + n ≡ 1 → is-group (t .cluster) ≡ false
   lone-group m n t e =
       let k = t .cluster in
-      let p = parts (members k) (members-sided cs os kept k (clusters (walk (drop m cs) (drop n os))) (t .walked)) .number in
+      let p = parts (members k) (members-sided cs os kept m n t) .number in
       let a = ap length (t .ours) ∙ length-take-le m cs (t .our-bound) in
       let b = ap length (t .theirs) ∙ length-take-le n os (t .their-bound) in
       one-member k (omega arith)
@@ -154,8 +163,7 @@ module _ (cs os : List Hunk) (kept : Kept-hunks cs os) (first : Hunk) (lead : nt
       f = first-is cs os first lead (t .cluster) (clusters (walk (drop m cs) (drop n os))) (t .walked)
 
       r : to (t .cluster) ≡ end
-      r = parts (members (t .cluster)) (members-sided cs os kept (t .cluster) (clusters (walk (drop m cs) (drop n os))) (t .walked)) .ends
-          ∙ (ap₂ (λ (xs ys : List Hunk). max (last-end xs) (last-end ys)) (t .ours) (t .theirs) ∙ sym e)
+      r = to-is cs os kept m n t ∙ sym e
 
       same : (k : Cluster) → length (currents (members k)) ≡ m → length (others (members k)) ≡ n → k .first ≡ first → to k ≡ end → is-group k ≡ b
           → _≡_ {A = NextCluster} (record { current = m; other = n; range = record { start = first .before .start; end = end }; «is_group» = b; lead = first .side }) (told k)

@@ -6,3 +6,4 @@ pub mod Starting
 pub mod Clustered
 pub mod Leaving
 pub mod Filling
+pub mod Ready

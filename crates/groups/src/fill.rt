@@ -2,7 +2,7 @@
 ghost use Prim.Native.Nat.{ℕ, _<_, _≤_};
 ghost use Rattle.hunks.specs.Lists.{held};
 ghost use Rattle.rules.specs.Filling.{stretch, filled};
-ghost use Rattle.rules.specs.Limits.{max-hunks};
+ghost use Rattle.rules.specs.Limits.{max-hunks, max-filled};
 ghost use lib.ListN.{length};
 ghost use mathlib.Core.List.{_++_};
 ghost use mathlib.Core.Path.{_≡_};
@@ -10,13 +10,11 @@ use hunks::list::HunkList;
 use rules::hunk::Hunk;
 use rules::hunk::Side;
 use rules::hunk::Span;
-
-/// The places of a working list: a side's hunks, and a stretch ahead of each and behind the last.
-pub const FILLED: usize = 513;
+use rules::limits::MAX_FILLED;
 
 // The ancestor lines `from..to` go into the list as a hunk, if there are any.
-fn push_stretch(list: &mut HunkList<FILLED>, from: u32, to: u32)
-    requires { ⌜ length (held (now list)) < 513 ⌝ }
+fn push_stretch(list: &mut HunkList<MAX_FILLED>, from: u32, to: u32)
+    requires { ⌜ length (held (now list)) < max-filled ⌝ }
     ensures { λ _. ⌜ held (now (list .exit)) ≡ held (now (list .entry)) ++ stretch from to ⌝ }
 {
     if from < to {
@@ -33,7 +31,7 @@ fn push_stretch(list: &mut HunkList<FILLED>, from: u32, to: u32)
 }
 
 /// Fills a working list with one side's hunks and the stretches of the range outside them.
-pub fn fill_ancestor(hunks: &[Hunk], range: Span, list: &mut HunkList<FILLED>)
+pub fn fill_ancestor(hunks: &[Hunk], range: Span, list: &mut HunkList<MAX_FILLED>)
     requires { ⌜ length (now hunks) ≤ max-hunks ⌝ }
     ensures { λ _. ⌜ held (now (list .exit)) ≡ filled (range .start) (range .end) (now (hunks .entry)) ⌝ }
 {

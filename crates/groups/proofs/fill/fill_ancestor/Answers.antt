@@ -6,6 +6,7 @@ use lib.ListN.{length, drop, getD}
 use Rattle.std.proofs.shelf.Lists.{at-drop-all}
 use Rattle.rules.specs.declared.hunk.Hunk.{Hunk}
 use Rattle.rules.specs.Filling.{filled}
+use Rattle.rules.specs.Limits.{max-filled}
 use Rattle.hunks.specs.Lists.{held}
 use Rattle.hunks.proofs.Helds.{no-hunk, pushed-room}
 use Rattle.groups.proofs.Filling.{Adds, fill-step, ahead-length, hunk-length}
@@ -19,7 +20,7 @@ loop-hunk-again c =
     let ys = held (c .push-stretch .last .list) in
     let h = getD hs i no-hunk in
     let few : length ys ≤ 2 * i + 1 = ahead-length xs ys i (c .loop-hunk .at) (h .before .start) (c .push-stretch .ensures) (c .loop-hunk .inv .0) in
-    let added = c .push .ensures .after ∙ pushed-room 513 ys h (omega arith) in
+    let added = c .push .ensures .after ∙ pushed-room max-filled ys h (omega arith) in
     let a : Adds hs xs ys (held (c .push .last .self)) i (c .loop-hunk .at) = record { below = c .loop-hunk-test .taken; ahead = c .push-stretch .ensures; hunk = added } in
     (hunk-length ys _ h i added few, fill-step hs xs ys _ _ i (c .loop-hunk .at) (c .args .range .end) a (c .loop-hunk .inv .1))
 
