@@ -16,8 +16,9 @@ use Rattle.rules.specs.declared.hunk.Span.{Span}
 use Rattle.rules.specs.declared.hunk.Hunk.{Hunk}
 use Rattle.contract.specs.Places.{ahead-at, front-place, back-place, behind-at, Placed}
 use Rattle.contract.specs.Ends.{removed-of, counts-of}
-use Rattle.reading.specs.Reading.{no-hunk, Readable}
-use Rattle.rules.specs.Contraction.{size, read-range, reading, first-lines, later-lines, cut-front, cut-back, Contracted, contracted, trimmed}
+use Rattle.rules.specs.Contraction.{Readable}
+use Rattle.reading.specs.Reading.{no-hunk}
+use Rattle.rules.specs.Contraction.{hunk-size, read-range, reading, first-lines, later-lines, cut-front, cut-back, Contracted, contracted, trimmed}
 use Rattle.rules.specs.Hunks.{Sheets, side-lines, sheet-of}
 use Rattle.rules.specs.Lines.{Line}
 use Rattle.rules.specs.SharedLines.{shared-front, shared-back}
@@ -115,7 +116,7 @@ module _ (s : Sheets) (a b a₁ b₁ r₁ a₂ b₂ r₂ : List Hunk) where
       }
 
 -- what contraction leaves and removes can be read
-readable-first : (s : Sheets) (n : ℕ) (h : Hunk) → n ≤ size h → 0 < n → Readable s h → Readable s (first-lines n h)
+readable-first : (s : Sheets) (n : ℕ) (h : Hunk) → n ≤ hunk-size h → 0 < n → Readable s h → Readable s (first-lines n h)
 readable-first s n h le pos r =
     let e : read-range (h .side) h .end ≤ length (sheet-of s (h .side)) = r in
     readable-by s (h .side) h (record { start = read-range (h .side) h .start; end = read-range (h .side) h .start + n }) (omega arith)

@@ -1,6 +1,6 @@
 ghost use Prim.Native.Nat.{ℕ, _<_, _≤_};
 ghost use mathlib.Core.Path.{_≡_};
-ghost use Rattle.rules.specs.Contraction.{size, reading, first-lines, later-lines};
+ghost use Rattle.rules.specs.Contraction.{hunk-size, reading, first-lines, later-lines};
 use reading::hunk::read_range;
 use rules::hunk::Hunk;
 use rules::hunk::Side;
@@ -21,7 +21,7 @@ fn read_instead(hunk: &mut Hunk, span: Span)
 
 /// The first `n` lines stay.
 pub fn keep_lines(hunk: &mut Hunk, n: u32)
-    requires { ⌜ 0 < n ⌝ ∗ ⌜ n ≤ size (now hunk) ⌝ }
+    requires { ⌜ 0 < n ⌝ ∗ ⌜ n ≤ hunk-size (now hunk) ⌝ }
     ensures { λ _. ⌜ now (hunk .exit) ≡ first-lines n (now (hunk .entry)) ⌝ }
 {
     let read = read_range(*hunk);
@@ -36,7 +36,7 @@ pub fn keep_lines(hunk: &mut Hunk, n: u32)
 
 /// The first `n` lines leave.
 pub fn drop_lines(hunk: &mut Hunk, n: u32)
-    requires { ⌜ 0 < n ⌝ ∗ ⌜ n ≤ size (now hunk) ⌝ }
+    requires { ⌜ 0 < n ⌝ ∗ ⌜ n ≤ hunk-size (now hunk) ⌝ }
     ensures { λ _. ⌜ now (hunk .exit) ≡ later-lines n (now (hunk .entry)) ⌝ }
 {
     let read = read_range(*hunk);

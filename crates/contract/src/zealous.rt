@@ -6,7 +6,7 @@ ghost use Rattle.std.specs.shelf.Lists.{All};
 ghost use Rattle.rules.specs.Limits.{max-removed};
 ghost use Rattle.rules.specs.Contraction.{contracted};
 ghost use Rattle.hunks.specs.Lists.{held};
-ghost use Rattle.reading.specs.Reading.{Readable};
+ghost use Rattle.rules.specs.Contraction.{Readable};
 ghost use Rattle.contract.specs.Ends.{shared-front-cut, shared-back-cut, removed-of, counts-of};
 use crate::list::gain_back;
 use crate::list::gain_front;

@@ -11,13 +11,14 @@ use Rattle.std.proofs.shelf.Elements.{all-getD}
 use Rattle.std.proofs.shelf.Tests.{cases-lt}
 use mathlib.Core.Logic.{⊎-elim}
 use Rattle.rules.specs.declared.hunk.Hunk.{Hunk}
-use Rattle.rules.specs.Contraction.{size}
+use Rattle.rules.specs.Contraction.{hunk-size}
 use Rattle.rules.specs.Hunks.{Sheets, hunk-lines, side-lines}
 use Rattle.rules.specs.Lines.{Line, same-line}
 use Rattle.rules.specs.SharedLines.{shared-back}
 use Rattle.rules.specs.Limits.{max-filled}
 use Rattle.reading.specs.Three.{All-formed}
-use Rattle.reading.specs.Reading.{no-hunk, Readable}
+use Rattle.rules.specs.Contraction.{Readable}
+use Rattle.reading.specs.Reading.{no-hunk}
 use Rattle.rules.proofs.Texts.{side-lines-append}
 use Rattle.reading.proofs.Reading.{whole, few-lines}
 use Rattle.reading.proofs.Fronts.{Run, run-same, run-more, run-stop, run-end-left, run-end-right}
@@ -27,13 +28,13 @@ abbrev pub upto : Sheets → List Hunk → ℕ → ℕ → List Line
 upto s hs i k = side-lines s (take i hs) ++ take k (hunk-lines s (getD hs i no-hunk))
 
 -- a line of a hunk is there only where the hunk is
-pub inside : (hs : List Hunk) (i k : ℕ) → 0 < k → k ≤ size (getD hs i no-hunk) → i < length hs
-inside hs i k pos le = ⊎-elim (λ h. h) (λ h. let e = ap size (getD-past hs i no-hunk h) in absurd (omega arith)) (cases-lt i (length hs))
+pub inside : (hs : List Hunk) (i k : ℕ) → 0 < k → k ≤ hunk-size (getD hs i no-hunk) → i < length hs
+inside hs i k pos le = ⊎-elim (λ h. h) (λ h. let e = ap hunk-size (getD-past hs i no-hunk h) in absurd (omega arith)) (cases-lt i (length hs))
 
 pub upto-start : (s : Sheets) (hs : List Hunk) → upto s hs (length hs) 0 ≡ side-lines s hs
 upto-start s hs = append-nil (side-lines s (take (length hs) hs)) ∙ ap (side-lines s) (take-all (length hs) hs (omega arith))
 
-pub upto-skip : (s : Sheets) (hs : List Hunk) (i : ℕ) → All (Readable s) hs → 0 < i → i ≤ length hs → upto s hs i 0 ≡ upto s hs (i - 1) (size (getD hs (i - 1) no-hunk))
+pub upto-skip : (s : Sheets) (hs : List Hunk) (i : ℕ) → All (Readable s) hs → 0 < i → i ≤ length hs → upto s hs i 0 ≡ upto s hs (i - 1) (hunk-size (getD hs (i - 1) no-hunk))
 upto-skip s hs i r pos le =
     let h = getD hs (i - 1) no-hunk in
     let lt : i - 1 < length hs = omega arith in
@@ -41,9 +42,9 @@ upto-skip s hs i r pos le =
     let n : i ≡ (i - 1) + 1 = omega arith in
     let t : take i hs ≡ take (i - 1) hs ++ (h ∷ []) = ap (λ v. take v hs) n ∙ take-more hs (i - 1) no-hunk lt in
     let e : side-lines s (take i hs) ≡ side-lines s (take (i - 1) hs) ++ (hunk-lines s h ++ []) = ap (side-lines s) t ∙ side-lines-append s (take (i - 1) hs) (h ∷ []) in
-    append-nil (side-lines s (take i hs)) ∙ (e ∙ ap (λ (v : List Line). side-lines s (take (i - 1) hs) ++ v) (append-nil (hunk-lines s h) ∙ sym (take-all (size h) (hunk-lines s h) (omega arith))))
+    append-nil (side-lines s (take i hs)) ∙ (e ∙ ap (λ (v : List Line). side-lines s (take (i - 1) hs) ++ v) (append-nil (hunk-lines s h) ∙ sym (take-all (hunk-size h) (hunk-lines s h) (omega arith))))
 
-pub upto-more : (s : Sheets) (hs : List Hunk) (i k : ℕ) → All (Readable s) hs → i < length hs → 0 < k → k ≤ size (getD hs i no-hunk) → upto s hs i k ≡ upto s hs i (k - 1) ++ (getD (hunk-lines s (getD hs i no-hunk)) (k - 1) [] ∷ [])
+pub upto-more : (s : Sheets) (hs : List Hunk) (i k : ℕ) → All (Readable s) hs → i < length hs → 0 < k → k ≤ hunk-size (getD hs i no-hunk) → upto s hs i k ≡ upto s hs i (k - 1) ++ (getD (hunk-lines s (getD hs i no-hunk)) (k - 1) [] ∷ [])
 upto-more s hs i k r lt pos le =
     let h = getD hs i no-hunk in
     let ls = hunk-lines s h in
@@ -58,9 +59,9 @@ back-more-line xs ys x e = ap reverse e ∙ reverse-append ys (x ∷ [])
 pub record Back (s : Sheets) (a b : List Hunk) (i k j m n : ℕ) : Type 0 where
   pub run : Run (reverse (side-lines s a)) (reverse (side-lines s b)) (reverse (upto s a i k)) (reverse (upto s b j m)) n
   pub left-hunk : i ≤ length a
-  pub left-line : k ≤ size (getD a i no-hunk)
+  pub left-line : k ≤ hunk-size (getD a i no-hunk)
   pub right-hunk : j ≤ length b
-  pub right-line : m ≤ size (getD b j no-hunk)
+  pub right-line : m ≤ hunk-size (getD b j no-hunk)
 
 abbrev pub behind-of : Sheets → List Hunk → List Hunk → ℕ → ℕ → ℕ → ℕ → ℕ
 behind-of s a b i k j m = (length (upto s a i k) + i) + (length (upto s b j m) + j)
@@ -75,14 +76,14 @@ back-start s a b = record {
 }
 
 module _ (s : Sheets) (a b : List Hunk) (i k j m n : ℕ) (ra : All (Readable s) a) (rb : All (Readable s) b) (f : Back s a b i k j m n) where
-  pub back-skip-left : 0 < i → k ≡ 0 → Back s a b (i - 1) (size (getD a (i - 1) no-hunk)) j m n × (behind-of s a b (i - 1) (size (getD a (i - 1) no-hunk)) j m < behind-of s a b i k j m)
+  pub back-skip-left : 0 < i → k ≡ 0 → Back s a b (i - 1) (hunk-size (getD a (i - 1) no-hunk)) j m n × (behind-of s a b (i - 1) (hunk-size (getD a (i - 1) no-hunk)) j m < behind-of s a b i k j m)
   back-skip-left pos z =
       let le = f .left-hunk in
       let e = ap (upto s a i) z ∙ upto-skip s a i ra pos le in
       let w = ap (λ (v : List Line). length v) e in
       (record { run = run-same _ _ _ _ _ _ n (ap reverse e) refl (f .run); left-hunk = omega arith; left-line = omega arith; right-hunk = f .right-hunk; right-line = f .right-line }, omega arith)
 
-  pub back-skip-right : 0 < j → m ≡ 0 → Back s a b i k (j - 1) (size (getD b (j - 1) no-hunk)) n × (behind-of s a b i k (j - 1) (size (getD b (j - 1) no-hunk)) < behind-of s a b i k j m)
+  pub back-skip-right : 0 < j → m ≡ 0 → Back s a b i k (j - 1) (hunk-size (getD b (j - 1) no-hunk)) n × (behind-of s a b i k (j - 1) (hunk-size (getD b (j - 1) no-hunk)) < behind-of s a b i k j m)
   back-skip-right pos z =
       let le = f .right-hunk in
       let e = ap (upto s b j) z ∙ upto-skip s b j rb pos le in

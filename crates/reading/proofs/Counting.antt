@@ -10,14 +10,15 @@ use mathlib.Core.Logic.{⊎-elim}
 use Rattle.std.specs.shelf.Lists.{All}
 use Rattle.std.proofs.shelf.Tests.{eq-eqb, ne-eqb, cases-eq, and-left, or-left, lt-ltb}
 use Rattle.rules.specs.declared.hunk.Hunk.{Hunk}
-use Rattle.rules.specs.Contraction.{size}
+use Rattle.rules.specs.Contraction.{hunk-size}
 use Rattle.rules.specs.Hunks.{Sheets, side-lines, hunk-lines}
 use Rattle.rules.specs.Lines.{Line, same-line, same-lines}
 use Rattle.rules.specs.SharedLines.{shared-front}
 use Rattle.rules.specs.Sides.{no-line}
 use Rattle.rules.specs.Limits.{max-filled}
 use Rattle.reading.specs.Three.{All-formed}
-use Rattle.reading.specs.Reading.{Readable, line-count, any-lines}
+use Rattle.rules.specs.Contraction.{Readable}
+use Rattle.reading.specs.Reading.{line-count, any-lines}
 use Rattle.reading.proofs.Reading.{whole, few-lines}
 
 pub counted : (s : Sheets) (hs : List Hunk) → All (Readable s) hs → length (side-lines s hs) ≡ line-count hs
@@ -51,7 +52,7 @@ no-line-is (l ∷ ls) rs n e = sym (or-left (ltb 0 n) (not (no-line rs)) (lt-ltb
 
 pub lines-there : (s : Sheets) (hs : List Hunk) → All (Readable s) hs → any-lines hs ≡ not (no-line (side-lines s hs))
 lines-there s [] r = refl
-lines-there s (h ∷ hs) r = ap (λ v. ltb 0 (size h) || v) (lines-there s hs (r .1)) ∙ sym (no-line-is (hunk-lines s h) (side-lines s hs) (size h) (whole s h (r .0)))
+lines-there s (h ∷ hs) r = ap (λ v. ltb 0 (hunk-size h) || v) (lines-there s hs (r .1)) ∙ sym (no-line-is (hunk-lines s h) (side-lines s hs) (hunk-size h) (whole s h (r .0)))
 
 pub differ-last : (xs ys : List Line) (n p q : ℕ) → n ≡ shared-front xs ys → p ≡ length xs → q ≡ length ys → n ≡ p → not (eqb n q) ≡ not (same-lines xs ys)
 differ-last xs ys n p q e a b h =

@@ -8,13 +8,14 @@ use lib.ListN.{length, drop, getD}
 use Rattle.std.specs.shelf.Lists.{All}
 use Rattle.std.proofs.shelf.Tests.{cond-true, cond-false}
 use Rattle.rules.specs.declared.hunk.Hunk.{Hunk}
-use Rattle.rules.specs.Contraction.{size}
+use Rattle.rules.specs.Contraction.{hunk-size}
 use Rattle.rules.specs.Hunks.{Sheets, hunk-lines, side-lines}
 use Rattle.rules.specs.Lines.{Line, same-line}
 use Rattle.rules.specs.SharedLines.{shared-front}
 use Rattle.rules.specs.Limits.{max-filled}
 use Rattle.reading.specs.Three.{All-formed}
-use Rattle.reading.specs.Reading.{no-hunk, Readable}
+use Rattle.rules.specs.Contraction.{Readable}
+use Rattle.reading.specs.Reading.{no-hunk}
 use Rattle.reading.proofs.Reading.{left, left-start, left-skip, left-more, left-end, few-lines}
 
 -- n lines were equal, and xs and ys are left of ps and qs
@@ -60,19 +61,19 @@ pub front-start : (s : Sheets) (a b : List Hunk) → Front s a b 0 0 0 0 0
 front-start s a b = run-same _ _ (side-lines s a) (side-lines s b) _ _ 0 (sym (left-start s a)) (sym (left-start s b)) (record { goal = omega arith; count = omega arith })
 
 module _ (s : Sheets) (a b : List Hunk) (i k j m n : ℕ) (ra : All (Readable s) a) (rb : All (Readable s) b) (f : Front s a b i k j m n) where
-  pub front-skip-left : i < length a → size (getD a i no-hunk) ≤ k → Front s a b (i + 1) 0 j m n × (ahead-of s a b (i + 1) 0 j m < ahead-of s a b i k j m)
+  pub front-skip-left : i < length a → hunk-size (getD a i no-hunk) ≤ k → Front s a b (i + 1) 0 j m n × (ahead-of s a b (i + 1) 0 j m < ahead-of s a b i k j m)
   front-skip-left lt le =
       let e = left-skip s a i k ra lt le in
       let w = ap (λ (v : List Line). length v) e in
       (run-same _ _ _ _ _ _ n e refl f, omega arith)
 
-  pub front-skip-right : j < length b → size (getD b j no-hunk) ≤ m → Front s a b i k (j + 1) 0 n × (ahead-of s a b i k (j + 1) 0 < ahead-of s a b i k j m)
+  pub front-skip-right : j < length b → hunk-size (getD b j no-hunk) ≤ m → Front s a b i k (j + 1) 0 n × (ahead-of s a b i k (j + 1) 0 < ahead-of s a b i k j m)
   front-skip-right lt le =
       let e = left-skip s b j m rb lt le in
       let w = ap (λ (v : List Line). length v) e in
       (run-same _ _ _ _ _ _ n refl e f, omega arith)
 
-  pub front-more : i < length a → j < length b → k < size (getD a i no-hunk) → m < size (getD b j no-hunk)
+  pub front-more : i < length a → j < length b → k < hunk-size (getD a i no-hunk) → m < hunk-size (getD b j no-hunk)
       → same-line (getD (hunk-lines s (getD a i no-hunk)) k []) (getD (hunk-lines s (getD b j no-hunk)) m []) ≡ true
       → Front s a b i (k + 1) j (m + 1) (n + 1) × (ahead-of s a b i (k + 1) j (m + 1) < ahead-of s a b i k j m)
   front-more la lb lk lm e =
@@ -82,7 +83,7 @@ module _ (s : Sheets) (a b : List Hunk) (i k j m n : ℕ) (ra : All (Readable s)
       let wb = ap (λ (v : List Line). length v) eb in
       (run-more _ _ _ _ _ _ n e (run-same _ _ _ _ _ _ n ea eb f), omega arith)
 
-  pub front-stop : i < length a → j < length b → k < size (getD a i no-hunk) → m < size (getD b j no-hunk)
+  pub front-stop : i < length a → j < length b → k < hunk-size (getD a i no-hunk) → m < hunk-size (getD b j no-hunk)
       → same-line (getD (hunk-lines s (getD a i no-hunk)) k []) (getD (hunk-lines s (getD b j no-hunk)) m []) ≡ false
       → n ≡ shared-front (side-lines s a) (side-lines s b)
   front-stop la lb lk lm e = run-stop _ _ _ _ _ _ n e (run-same _ _ _ _ _ _ n (left-more s a i k ra la lk) (left-more s b j m rb lb lm) f)

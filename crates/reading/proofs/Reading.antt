@@ -11,13 +11,14 @@ use Rattle.std.specs.declared.option.Option.the-variants.{Some, None}
 use Rattle.rules.specs.declared.hunk.Side.{Side}
 use Rattle.rules.specs.declared.hunk.Side.the-variants.{Current, Other, Ancestor}
 use Rattle.rules.specs.declared.hunk.Hunk.{Hunk}
-use Rattle.rules.specs.Contraction.{read-range, size}
+use Rattle.rules.specs.Contraction.{read-range, hunk-size}
 use Rattle.rules.specs.Limits.{max-lines}
 use Rattle.rules.specs.Hunks.{Sheets, hunk-lines, lines-by, side-lines, sheet-of}
 use Rattle.rules.specs.Lines.{Line, between}
 use Rattle.rules.specs.Texts.{nth-line}
 use Rattle.reading.specs.Three.{All-formed}
-use Rattle.reading.specs.Reading.{no-hunk, Readable}
+use Rattle.rules.specs.Contraction.{Readable}
+use Rattle.reading.specs.Reading.{no-hunk}
 
 pub nth-some : (ls : List Line) (n : ℕ) (l : Line) → Some l ≡ nth-line ls n → l ≡ getD ls n []
 nth-some [] n l e = let z : _≡_ {A = ℕ} 0 1 = cc in absurd (omega arith)
@@ -34,14 +35,14 @@ lines-are Current s h = refl
 lines-are Other s h = refl
 lines-are Ancestor s h = refl
 
-pub whole : (s : Sheets) (h : Hunk) → Readable s h → length (hunk-lines s h) ≡ size h
+pub whole : (s : Sheets) (h : Hunk) → Readable s h → length (hunk-lines s h) ≡ hunk-size h
 whole s h r =
     let ls = sheet-of s (h .side) in
     let a = read-range (h .side) h .start in
     let b = read-range (h .side) h .end in
     ap length (lines-are (h .side) s h) ∙ length-take-le (b - a) (drop a ls) (simp length-drop (omega arith))
 
-pub line-at : (s : Sheets) (h : Hunk) (k : ℕ) → k < size h → getD (hunk-lines s h) k [] ≡ getD (sheet-of s (h .side)) (read-range (h .side) h .start + k) []
+pub line-at : (s : Sheets) (h : Hunk) (k : ℕ) → k < hunk-size h → getD (hunk-lines s h) k [] ≡ getD (sheet-of s (h .side)) (read-range (h .side) h .start + k) []
 line-at s h k lt =
     let ls = sheet-of s (h .side) in
     let a = read-range (h .side) h .start in
@@ -57,7 +58,7 @@ pub left-start : (s : Sheets) (hs : List Hunk) → left s hs 0 ≡ side-lines s 
 left-start s [] = refl
 left-start s (h ∷ hs) = refl
 
-pub left-skip : (s : Sheets) (hs : List Hunk) (i k : ℕ) → All (Readable s) hs → i < length hs → size (getD hs i no-hunk) ≤ k → left s (drop i hs) k ≡ left s (drop (i + 1) hs) 0
+pub left-skip : (s : Sheets) (hs : List Hunk) (i k : ℕ) → All (Readable s) hs → i < length hs → hunk-size (getD hs i no-hunk) ≤ k → left s (drop i hs) k ≡ left s (drop (i + 1) hs) 0
 left-skip s hs i k r lt le =
     let h = getD hs i no-hunk in
     let w = whole s h (all-getD (Readable s) hs i no-hunk lt r) in
@@ -65,7 +66,7 @@ left-skip s hs i k r lt le =
     let d : drop k (hunk-lines s h) ≡ [] = drop-all k (hunk-lines s h) (omega arith) in
     e ∙ (ap (λ (v : List Line). v ++ side-lines s (drop (i + 1) hs)) d ∙ sym (left-start s (drop (i + 1) hs)))
 
-pub left-more : (s : Sheets) (hs : List Hunk) (i k : ℕ) → All (Readable s) hs → i < length hs → k < size (getD hs i no-hunk) → left s (drop i hs) k ≡ getD (hunk-lines s (getD hs i no-hunk)) k [] ∷ left s (drop i hs) (k + 1)
+pub left-more : (s : Sheets) (hs : List Hunk) (i k : ℕ) → All (Readable s) hs → i < length hs → k < hunk-size (getD hs i no-hunk) → left s (drop i hs) k ≡ getD (hunk-lines s (getD hs i no-hunk)) k [] ∷ left s (drop i hs) (k + 1)
 left-more s hs i k r lt le =
     let h = getD hs i no-hunk in
     let w = whole s h (all-getD (Readable s) hs i no-hunk lt r) in

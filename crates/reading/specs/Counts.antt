@@ -7,7 +7,8 @@ use Rattle.std.specs.shelf.Lists.{All}
 use Rattle.rules.specs.declared.hunk.Hunk.{Hunk}
 use Rattle.rules.specs.Hunks.{Sheets, side-lines}
 use Rattle.rules.specs.Sides.{no-line}
-use Rattle.reading.specs.Reading.{Readable, line-count, any-lines}
+use Rattle.rules.specs.Contraction.{Readable}
+use Rattle.reading.specs.Reading.{line-count, any-lines}
 
 -- Of hunks that can be read, the numbers of lines add up to how many lines the list has, and one has lines exactly when the list has a line.
 pub record Counted (s : Sheets) (hs : List Hunk) : Type 0 where

@@ -7,21 +7,17 @@ use lib.ListN.{length}
 use Rattle.rules.specs.declared.hunk.Hunk.{Hunk}
 use Rattle.rules.specs.declared.hunk.Side.the-variants.{Current}
 use Rattle.rules.specs.Hunks.{Sheets, sheet-of}
-use Rattle.rules.specs.Contraction.{read-range, size}
-
--- A hunk whose sheet has all the lines that are read of it.
-abbrev pub Readable : Sheets → Hunk → Type 0
-Readable s h = read-range (h .side) h .end ≤ length (sheet-of s (h .side))
+use Rattle.rules.specs.Contraction.{read-range, hunk-size}
 
 -- How many lines are read of a list's hunks.
 abbrev pub line-count : List Hunk → ℕ
 line-count [] = 0
-line-count (h ∷ hs) = size h + line-count hs
+line-count (h ∷ hs) = hunk-size h + line-count hs
 
 -- Whether a hunk of the list has lines.
 abbrev pub any-lines : List Hunk → Bool
 any-lines [] = false
-any-lines (h ∷ hs) = ltb 0 (size h) || any-lines hs
+any-lines (h ∷ hs) = ltb 0 (hunk-size h) || any-lines hs
 
 -- What stands for a hunk where there is none: it has no lines.
 abbrev pub no-hunk : Hunk

@@ -3,7 +3,7 @@ ghost use mathlib.Core.Path.{_≡_};
 ghost use mathlib.Core.List.{[]};
 ghost use lib.ListN.{getD};
 ghost use Rattle.rules.specs.Hunks.{hunk-lines, sheet-of};
-ghost use Rattle.rules.specs.Contraction.{read-range, size};
+ghost use Rattle.rules.specs.Contraction.{read-range, hunk-size};
 ghost use Rattle.reading.specs.Reading.{line-count, any-lines};
 ghost use Rattle.reading.specs.Counts.{Counts-stand};
 use crate::three::ThreeSheets;
@@ -23,7 +23,7 @@ pub fn read_range(hunk: Hunk) -> Span
 
 /// How many lines are read of a hunk.
 pub fn lines_of(hunk: Hunk) -> u32
-    ensures { λ r. ⌜ r ≡ size hunk ⌝ }
+    ensures { λ r. ⌜ r ≡ hunk-size hunk ⌝ }
 {
     let read = read_range(hunk);
     read.end.saturating_sub(read.start)
@@ -41,7 +41,7 @@ pub fn line_at<T: ThreeSheets>(three: &T, side: Side, n: u32) -> &[u8]
 
 /// Line `k` of a hunk.
 pub fn line_in<T: ThreeSheets>(three: &T, hunk: Hunk, k: u32) -> &[u8]
-    requires { ⌜ k < size hunk ⌝ }
+    requires { ⌜ k < hunk-size hunk ⌝ }
     ensures { λ r. ⌜ now r ≡ getD (hunk-lines (T·ThreeSheets .sheets (now (three .entry))) hunk) k [] ⌝ }
 {
     line_at(three, hunk.side, read_range(hunk).start + k)

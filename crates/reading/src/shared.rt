@@ -7,7 +7,7 @@ ghost use Rattle.rules.specs.Limits.{max-filled};
 ghost use Rattle.rules.specs.Lines.{same-lines};
 ghost use Rattle.rules.specs.SharedLines.{shared-front, shared-back};
 ghost use Rattle.rules.specs.Hunks.{side-lines};
-ghost use Rattle.reading.specs.Reading.{Readable};
+ghost use Rattle.rules.specs.Contraction.{Readable};
 use crate::hunk::count_lines;
 use crate::hunk::line_in;
 use crate::hunk::lines_of;

@@ -92,8 +92,10 @@ pub between-done : (ls : List Line) (n to : ℕ) → to ≤ n → between ls n t
 between-done ls n to le = ap (λ m. take m (drop n ls)) (let q : to - n ≡ 0 = omega arith in q)
 
 pub line-step : (k : Kind) (ls : List Line) (n to : ℕ) (c : Chunk) → n < to → to ≤ length ls → c ≡ piece k (getD ls n []) → Parts (each k (between ls n to)) (put c ∷ []) (each k (between ls (n + 1) to))
-line-step k ls n to c lt le e = record { is =
-    ap (each k) (between-more ls n to lt le) ∙ ap (λ (x : Chunk). put x ∷ each k (between ls (n + 1) to)) (sym e) }
+line-step k ls n to c lt le e = record {
+  is =
+      ap (each k) (between-more ls n to lt le) ∙ ap (λ (x : Chunk). put x ∷ each k (between ls (n + 1) to)) (sym e);
+}
 
 pub hunk-step : (k : Kind) (s : Sheets) (hs : List Hunk) (i : ℕ) (r : Span) → i < length hs → r ≡ read-range (getD hs i no-hunk .side) (getD hs i no-hunk)
     → Parts (each k (side-lines s (drop i hs))) (each k (between (sheet-of s (getD hs i no-hunk .side)) (r .start) (r .end))) (each k (side-lines s (drop (i + 1) hs)))

@@ -5,7 +5,7 @@ use Prim.Native.Nat.{_+_, _-_, _<_}
 use lib.ListN.{drop, getD}
 use Rattle.contract.specs.Places.{front-place}
 use Rattle.reading.specs.Reading.{no-hunk}
-use Rattle.rules.specs.Contraction.{size}
+use Rattle.rules.specs.Contraction.{hunk-size}
 use Rattle.contract.proofs.Places.{plus, front-go, front-halt, front-last}
 use Rattle.contract.proofs.place.front_place.Needs as need
 
@@ -13,7 +13,7 @@ pub returns-then-lines-rest : need.returns-then-lines-rest
 returns-then-lines-rest c =
     let v = c .loop-hunk in
     let h = getD (c .args .hunks .now) (v .hunk-index) no-hunk in
-    let o : (v .rest < size h) ⊎ (v .rest ≡ 0) = ⊎-elim (λ e. inl (omega (arith, c .lines-of-lines .ensures))) (λ e. inr (e .1)) (c .then-lines-rest .either) in
+    let o : (v .rest < hunk-size h) ⊎ (v .rest ≡ 0) = ⊎-elim (λ e. inl (omega (arith, c .lines-of-lines .ensures))) (λ e. inr (e .1)) (c .then-lines-rest .either) in
     front-halt (c .args .n) (c .args .hunks .now) (v .hunk-index) (v .whole) (v .rest) (c .loop-hunk-test .taken) o (v .inv .1)
 
 pub loop-hunk-again : need.loop-hunk-again

@@ -3,7 +3,7 @@ use mathlib.Core.Path.{_≡_}
 use native.Mathlib.Omega.{arith}
 use lib.ListN.{drop, getD}
 use Rattle.std.proofs.shelf.Lists.{at-drop-more, at-drop-all}
-use Rattle.rules.specs.Contraction.{size}
+use Rattle.rules.specs.Contraction.{hunk-size}
 use Rattle.reading.specs.Reading.{no-hunk, line-count}
 use Rattle.reading.proofs.hunk.count_lines.Needs as need
 
@@ -11,14 +11,14 @@ pub add-sum : need.add-sum
 add-sum c =
     let hs = c .args .hunks .now in
     let i = c .loop-hunk .hunk-index in
-    let e : line-count (drop i hs) ≡ size (getD hs i no-hunk) + line-count (drop (i + 1) hs) = at-drop-more line-count hs i no-hunk (c .loop-hunk-test .taken) in
+    let e : line-count (drop i hs) ≡ hunk-size (getD hs i no-hunk) + line-count (drop (i + 1) hs) = at-drop-more line-count hs i no-hunk (c .loop-hunk-test .taken) in
     omega (arith, c .lines-of-sum .ensures)
 
 pub loop-hunk-again : need.loop-hunk-again
 loop-hunk-again c =
     let hs = c .args .hunks .now in
     let i = c .loop-hunk .hunk-index in
-    let e : line-count (drop i hs) ≡ size (getD hs i no-hunk) + line-count (drop (i + 1) hs) = at-drop-more line-count hs i no-hunk (c .loop-hunk-test .taken) in
+    let e : line-count (drop i hs) ≡ hunk-size (getD hs i no-hunk) + line-count (drop (i + 1) hs) = at-drop-more line-count hs i no-hunk (c .loop-hunk-test .taken) in
     let v = c .loop-hunk .inv in
     omega (arith, c .lines-of-sum .ensures)
 

@@ -2,7 +2,7 @@ use mathlib.Core.Path.{sym, _∙_, ap₂}
 use Prim.Native.Nat.{_<_}
 use native.Mathlib.Omega.{arith}
 use lib.ListN.{getD}
-use Rattle.rules.specs.Contraction.{size}
+use Rattle.rules.specs.Contraction.{hunk-size}
 use Rattle.rules.specs.Lines.{same-line}
 use Rattle.reading.specs.Reading.{no-hunk}
 use Rattle.reading.proofs.Fronts.{front-skip-left, front-skip-right, front-more, front-stop, front-end-left, front-end-right, front-small}
@@ -30,8 +30,8 @@ run-again g c =
     let a = c .args .a .now in
     let b = c .args .b .now in
     let v = c .run in
-    let lk : v .k < size (getD a (v .i) no-hunk) = omega (arith, c .lines-of .ensures) in
-    let lm : v .m < size (getD b (v .j) no-hunk) = omega (arith, c .lines-of-else-k-lines-of .ensures) in
+    let lk : v .k < hunk-size (getD a (v .i) no-hunk) = omega (arith, c .lines-of .ensures) in
+    let lm : v .m < hunk-size (getD b (v .j) no-hunk) = omega (arith, c .lines-of-else-k-lines-of .ensures) in
     let e = c .if-not-same-line .ensures tt ∙ ap₂ same-line (c .line-in .ensures) (c .line-in-else-m-lines-of .ensures) in
     front-more s a b (v .i) (v .k) (v .j) (v .m) (v .n) (c .pre .ours) (c .pre .theirs) (v .inv) (c .run-test .taken) (c .if-j-b .taken) lk lm (sym e) .0
 
@@ -57,8 +57,8 @@ run-less g c =
     let a = c .args .a .now in
     let b = c .args .b .now in
     let v = c .run in
-    let lk : v .k < size (getD a (v .i) no-hunk) = omega (arith, c .lines-of .ensures) in
-    let lm : v .m < size (getD b (v .j) no-hunk) = omega (arith, c .lines-of-else-k-lines-of .ensures) in
+    let lk : v .k < hunk-size (getD a (v .i) no-hunk) = omega (arith, c .lines-of .ensures) in
+    let lm : v .m < hunk-size (getD b (v .j) no-hunk) = omega (arith, c .lines-of-else-k-lines-of .ensures) in
     let e = c .if-not-same-line .ensures tt ∙ ap₂ same-line (c .line-in .ensures) (c .line-in-else-m-lines-of .ensures) in
     front-more s a b (v .i) (v .k) (v .j) (v .m) (v .n) (c .pre .ours) (c .pre .theirs) (v .inv) (c .run-test .taken) (c .if-j-b .taken) lk lm (sym e) .1
 
@@ -94,7 +94,7 @@ returns-then-not-same-line g c =
     let a = c .args .a .now in
     let b = c .args .b .now in
     let v = c .run in
-    let lk : v .k < size (getD a (v .i) no-hunk) = omega (arith, c .lines-of .ensures) in
-    let lm : v .m < size (getD b (v .j) no-hunk) = omega (arith, c .lines-of-else-k-lines-of .ensures) in
+    let lk : v .k < hunk-size (getD a (v .i) no-hunk) = omega (arith, c .lines-of .ensures) in
+    let lm : v .m < hunk-size (getD b (v .j) no-hunk) = omega (arith, c .lines-of-else-k-lines-of .ensures) in
     let e = c .if-not-same-line .ensures tt ∙ ap₂ same-line (c .line-in .ensures) (c .line-in-else-m-lines-of .ensures) in
     front-stop s a b (v .i) (v .k) (v .j) (v .m) (v .n) (c .pre .ours) (c .pre .theirs) (v .inv) (c .run-test .taken) (c .if-j-b .taken) lk lm (sym e)

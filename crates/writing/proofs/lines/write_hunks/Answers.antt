@@ -9,7 +9,8 @@ use Rattle.rules.specs.declared.hunk.Hunk.{Hunk}
 use Rattle.rules.specs.Hunks.{sheet-of, side-lines}
 use Rattle.rules.specs.Steps.{each}
 use Rattle.sink.specs.Pieces.{kind-of}
-use Rattle.reading.specs.Reading.{no-hunk, Readable}
+use Rattle.rules.specs.Contraction.{Readable}
+use Rattle.reading.specs.Reading.{no-hunk}
 use Rattle.writing.proofs.Steps.{part-done, part-room, all-done, hunk-step, keeps-none, keeps-on}
 use Rattle.writing.proofs.lines.write_hunks.Needs as need
 
