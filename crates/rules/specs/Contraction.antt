@@ -1,6 +1,6 @@
 -- Contraction: the longest equal run of leading lines leaves both sides of a group, then that of trailing lines among the rest. It works on hunks:
 -- whole hunks leave, and one hunk is cut in its place. A hunk without lines goes along only with a removed line that it stands before or behind.
-use Prim.Native.Nat.{ℕ, _+_, _-_}
+use Prim.Native.Nat.{ℕ, _+_, _-_, _≤_}
 use mathlib.Core.Bool.{cond, _&&_, not}
 use mathlib.Core.List.{List, [], _∷_}
 use lib.ListN.{length}
@@ -10,7 +10,7 @@ use Rattle.rules.specs.declared.hunk.Side.{Side}
 use Rattle.rules.specs.declared.hunk.Side.the-variants.{Current, Other, Ancestor}
 use Rattle.rules.specs.declared.hunk.Span.{Span}
 use Rattle.rules.specs.SharedLines.{shared-front, shared-back}
-use Rattle.rules.specs.Hunks.{Sheets, side-lines}
+use Rattle.rules.specs.Hunks.{Sheets, side-lines, sheet-of}
 
 -- The range that is read of a hunk.
 abbrev pub read-range : Side → Hunk → Span
@@ -81,3 +81,7 @@ contracted s a b =
     let ca = cut-front n a in
     let cb = cut-front n b in
     trimmed s (ca .ahead) (ca .behind) (cb .behind)
+
+-- A hunk whose sheet has all the lines that are read of it.
+abbrev pub Readable : Sheets → Hunk → Type 0
+Readable s h = read-range (h .side) h .end ≤ length (sheet-of s (h .side))

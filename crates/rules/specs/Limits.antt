@@ -28,3 +28,11 @@ row-width = 40
 -- The most bytes that can be announced to a row sink.
 abbrev pub row-capacity : ℕ
 row-capacity = 4294967295
+
+-- The most hunks of a group's side with its stretches filled in: the hunks of a side and one stretch more than these.
+abbrev pub max-filled : ℕ
+max-filled = 513
+
+-- The most hunks that contraction removes of a side: it may cut one in front and one in back.
+abbrev pub max-removed : ℕ
+max-removed = 515

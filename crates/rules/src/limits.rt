@@ -14,3 +14,7 @@ pub const MAX_MARKER_SIZE: u32 = 255;
 pub const ROW_WIDTH: usize = 40;
 /// The most bytes that can be announced to a row sink.
 pub const ROW_CAPACITY: usize = 4294967295;
+/// The most hunks of a group's side with its stretches filled in: `MAX_HUNKS` of the side, and one stretch more than these.
+pub const MAX_FILLED: usize = 513;
+/// The most hunks that contraction removes of a side: it may cut one in front and one in back.
+pub const MAX_REMOVED: usize = 515;

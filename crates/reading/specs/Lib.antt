@@ -1,0 +1,3 @@
+pub mod Three
+pub mod Reading
+pub mod Counts

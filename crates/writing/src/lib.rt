@@ -1,0 +1,5 @@
+//! Writing a group of hunks into any sink. An inner crate: it trusts its caller for what its `requires` say.
+pub mod ending;
+pub mod lines;
+pub mod mark;
+pub mod piece;
