@@ -47,3 +47,6 @@ offered xs ys k m le e =
     (cases-lt 0 m))
     (λ (b : length xs ≤ k). absurd (false≢true (sym (none-next xs ys k m b) ∙ e)))
     (cases-lt k (length xs))
+
+pub offered-below : (xs ys : List Hunk) (k m : ℕ) → m ≤ length ys → true ≡ offers (nth xs k) (last-of (take m ys)) → k < length xs
+offered-below xs ys k m le e = offered xs ys k m le (sym e) .below

@@ -3,4 +3,4 @@
 pub mod fill;
 pub mod next;
 pub mod take;
-pub mod touch;
+mod touch;

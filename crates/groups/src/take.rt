@@ -24,7 +24,7 @@ fn is_offered(next: &[Hunk], k: usize, facing: &[Hunk], m: usize) -> bool
 }
 
 /// A single hunk of a side, as numbers of current and other hunks.
-pub fn one_of(side: Side) -> (usize, usize)
+pub(crate) fn one_of(side: Side) -> (usize, usize)
     ensures { λ r. ⌜ r ≡ one-of side ⌝ }
 {
     match side {

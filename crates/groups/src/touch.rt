@@ -15,14 +15,14 @@ fn are_opposite(a: Side, b: Side) -> bool
 }
 
 /// Whether two hunks of opposite sides touch: neither starts behind the other's end.
-pub fn touch(a: Hunk, b: Hunk) -> bool
+pub(crate) fn touch(a: Hunk, b: Hunk) -> bool
     ensures { λ r. ⌜ r ≡ touches a b ⌝ }
 {
     are_opposite(a.side, b.side) && a.before.start <= b.before.end && b.before.start <= a.before.end
 }
 
 /// Whether a hunk touches one of the others.
-pub fn touches_any(hunk: Hunk, others: &[Hunk]) -> bool
+pub(crate) fn touches_any(hunk: Hunk, others: &[Hunk]) -> bool
     ensures { λ r. ⌜ r ≡ touches-any hunk (now (others .entry)) ⌝ }
 {
     for other in others {
@@ -34,7 +34,7 @@ pub fn touches_any(hunk: Hunk, others: &[Hunk]) -> bool
 }
 
 /// The largest end of the hunks' ranges in the ancestor, 0 where there are none.
-pub fn last_end(hunks: &[Hunk]) -> u32
+pub(crate) fn last_end(hunks: &[Hunk]) -> u32
     ensures { λ r. ⌜ r ≡ last-end (now (hunks .entry)) ⌝ }
 {
     let mut end = 0;

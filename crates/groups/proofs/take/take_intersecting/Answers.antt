@@ -2,7 +2,7 @@ use Prim.Native.Nat.{_≤_, _<_}
 use native.Mathlib.Omega.{arith}
 use mathlib.Core.Path.{_≡_, sym, subst}
 use lib.ListN.{length}
-use Rattle.groups.proofs.Offered.{offered}
+use Rattle.groups.proofs.Offered.{offered-below}
 use Rattle.groups.proofs.Growing.{Growing, grow-other, grow-current, complete, taken-is}
 use Rattle.groups.proofs.Starting.{started}
 use Rattle.groups.proofs.Clustered.{our-run, their-run}
@@ -19,7 +19,7 @@ group-holds c =
 pub loop-j-less : need.loop-j-less
 loop-j-less c =
     let g = c .loop-j .inv .0 in
-    let o : c .loop-j .j < length (c .args .other .now) = offered _ _ _ _ (g .our-bound) (sym (c .loop-j-test .ensures tt)) .below in
+    let o : c .loop-j .j < length (c .args .other .now) = offered-below (c .args .other .now) (c .args .current .now) (c .loop-j .j) (c .group .i) (g .our-bound) (c .loop-j-test .ensures tt) in
     omega arith
 
 pub loop-j-again : need.loop-j-again
@@ -34,13 +34,13 @@ loop-j-again c =
 pub is-offered-requires-in-more-2 : need.is-offered-requires-in-more-2
 is-offered-requires-in-more-2 c κs =
     let g = c .more .inv .0 in
-    let o : c .more .i < length (c .args .current .now) = offered _ _ _ _ (g .their-bound) (sym (c .if-not-is-offered .ensures tt)) .below in
+    let o : c .more .i < length (c .args .current .now) = offered-below (c .args .current .now) (c .args .other .now) (c .more .i) (c .loop-j .j) (g .their-bound) (c .if-not-is-offered .ensures tt) in
     omega arith
 
 pub group-less : need.group-less
 group-less c =
     let g = c .more .inv .0 in
-    let o : c .more .i < length (c .args .current .now) = offered _ _ _ _ (g .their-bound) (sym (c .if-not-is-offered .ensures tt)) .below in
+    let o : c .more .i < length (c .args .current .now) = offered-below (c .args .current .now) (c .args .other .now) (c .more .i) (c .loop-j .j) (g .their-bound) (c .if-not-is-offered .ensures tt) in
     let p = c .more .inv .1 in
     let q = c .loop-j .inv .1 in
     let b = g .their-bound in
@@ -56,7 +56,7 @@ group-again c =
 pub more-less : need.more-less
 more-less c =
     let g = c .more .inv .0 in
-    let o : c .more .i < length (c .args .current .now) = offered _ _ _ _ (g .their-bound) (sym (c .if-not-is-offered .ensures tt)) .below in
+    let o : c .more .i < length (c .args .current .now) = offered-below (c .args .current .now) (c .args .other .now) (c .more .i) (c .loop-j .j) (g .their-bound) (c .if-not-is-offered .ensures tt) in
     omega arith
 
 pub more-again : need.more-again
