@@ -58,7 +58,7 @@ last-end-within : (side : Side) (na ns x y : ℕ) (hs : List Hunk) → In-order 
 last-end-within side na ns x y [] r = omega arith
 last-end-within side na ns x y (h ∷ hs) r = let q = r .3 in let l = last-end-within side na ns (suc (h .before .end)) (h .after .end) hs (r .7) in omega arith
 
-few-taken : (m : ℕ) (hs : List Hunk) → m ≤ length hs → length hs ≤ max-hunks → length (take m hs) ≤ max-hunks
+pub few-taken : (m : ℕ) (hs : List Hunk) → m ≤ length hs → length hs ≤ max-hunks → length (take m hs) ≤ max-hunks
 few-taken m hs b le = let e = length-take-le m hs b in omega arith
 
 -- What holds of the next cluster.
