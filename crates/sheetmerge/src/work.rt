@@ -24,34 +24,15 @@ pub fn work(
     table: &mut HunkTable,
     command: Command<'_>,
 ) -> io::Result<Outcome> {
+    if !matches!(command, Command::Nothing | Command::Help) {
+        echo(rt, command)?;
+    }
     match command {
         Command::Nothing => Ok(Outcome::Done),
         Command::Help => help(rt),
-        Command::Sheet { side, kind, path } => {
-            echo(rt, command)?;
-            take_in(rt, section, side, kind, path)
-        }
-        Command::Lines { side } => {
-            echo(rt, command)?;
-            list(rt, &section.of(side).sheet())
-        }
-        Command::Row { side, row } => {
-            echo(rt, command)?;
-            show_row(rt, &section.of(side).sheet(), row)
-        }
-        _ => work_on_table(rt, section, table, command),
-    }
-}
-
-/// Does a command of the hunk table.
-fn work_on_table(
-    rt: &LibcRuntime,
-    section: &Section,
-    table: &mut HunkTable,
-    command: Command<'_>,
-) -> io::Result<Outcome> {
-    echo(rt, command)?;
-    match command {
+        Command::Sheet { side, kind, path } => take_in(rt, section, side, kind, path),
+        Command::Lines { side } => list(rt, &section.of(side).sheet()),
+        Command::Row { side, row } => show_row(rt, &section.of(side).sheet(), row),
         Command::Open => open_by_sheets(rt, table, section),
         Command::OpenBy {
             ancestor,
@@ -60,7 +41,7 @@ fn work_on_table(
         } => open(rt, table, ancestor, current, other),
         Command::Enter { hunk } => enter(rt, table, hunk),
         Command::Withdraw { side } => withdraw(rt, table, side),
-        _ => list_held(rt, table),
+        Command::Held => list_held(rt, table),
     }
 }
 
