@@ -3,6 +3,7 @@ ghost use lib.ListN.{length};
 ghost use denote.Ref.{now};
 
 mod ops;
+mod reading;
 
 pub use self::ops::PageSink;
 

@@ -2,6 +2,7 @@ ghost use Prim.Native.Nat.{_≤_};
 ghost use Rattle.rules.specs.Limits.{row-width, row-capacity};
 
 mod ops;
+mod reading;
 
 pub use self::ops::RowSink;
 use rules::limits::ROW_WIDTH;

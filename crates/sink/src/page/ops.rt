@@ -3,7 +3,7 @@ ghost use mathlib.Core.Path.{_≡_};
 ghost use mathlib.Core.List.{List, []};
 ghost use lib.ListN.{length};
 ghost use denote.Ref.{now};
-ghost use Rattle.rules.specs.Pieces.{Chunk, all-bytes, made, size};
+ghost use Rattle.rules.specs.Pieces.{Chunk, size};
 ghost use Rattle.sink.specs.Pieces.{chunk};
 ghost use Rattle.sink.specs.Answers.{begin-answer, take-answer};
 ghost use Rattle.sink.specs.PageState.{page-value, page-rule, page-rest};
@@ -12,29 +12,6 @@ use crate::piece::Piece;
 use crate::refusal::NoRoom;
 use crate::refusal::TooLong;
 use crate::sink::Sink;
-
-impl<'a> Page<'a> {
-    /// A page over the lent buffer, as after begin with 0.
-    pub fn new(buffer: &'a mut [u8]) -> Page<'a>
-        ensures buffer { λ r. ⌜ r .buffer ≡ buffer .entry ⌝ }
-        ensures value { λ r. ⌜ page-value r ≡ [] ⌝ }
-        ensures empty { λ r. ⌜ (r .announced ≡ 0) × (r .taken ≡ 0) ⌝ }
-    {
-        Page {
-            buffer,
-            announced: 0,
-            taken: 0,
-        }
-    }
-
-    /// The bytes taken: those of the pieces, joined, whatever pieces made the page's value.
-    pub fn bytes(&self) -> &[u8]
-        ensures bytes { λ r. ⌜ now r ≡ page-value (now (self .entry)) ⌝ }
-        ensures joined { λ r. ⌜ ((cs : List Chunk) → page-value (now (self .entry)) ≡ made page-rule [] cs → now r ≡ all-bytes cs) ⌝ }
-    {
-        &self.buffer[..self.taken]
-    }
-}
 
 pub impl<'a> Sink for Page<'a> as PageSink {
     ghost Value = { List ℕ };

@@ -2,10 +2,10 @@ ghost use Prim.Native.Nat.{ℕ, _+_, _<_, _≤_};
 ghost use mathlib.Core.Path.{_≡_};
 ghost use mathlib.Core.List.{List};
 ghost use Rattle.rules.specs.Limits.{row-capacity};
-ghost use Rattle.rules.specs.Pieces.{Chunk, all-bytes, made, size};
+ghost use Rattle.rules.specs.Pieces.{Chunk, size};
 ghost use Rattle.sink.specs.Pieces.{chunk};
 ghost use Rattle.sink.specs.Answers.{begin-answer, take-answer};
-ghost use Rattle.sink.specs.Rows.{RowValue, fresh-row, row-rule, shows, shown-row};
+ghost use Rattle.sink.specs.Rows.{RowValue, fresh-row, row-rule, shows};
 ghost use Rattle.sink.specs.RowState.{row-value};
 use crate::piece::Piece;
 use crate::refusal::NoRoom;
@@ -18,29 +18,6 @@ use rules::limits::ROW_WIDTH;
 const NEWLINE: u8 = b'\n';
 
 impl Row {
-    /// A sink for row `wanted`, counted from 0, as after begin with 0.
-    pub fn new(wanted: u32) -> Row
-        ensures value { λ r. ⌜ row-value r ≡ fresh-row wanted ⌝ }
-        ensures empty { λ r. ⌜ (r .announced ≡ 0) × (r .taken ≡ 0) ⌝ }
-    {
-        Row {
-            wanted,
-            newlines: 0,
-            bytes: [0; ROW_WIDTH],
-            len: 0,
-            announced: 0,
-            taken: 0,
-        }
-    }
-
-    /// The row's first bytes: those of the pieces' bytes joined, whatever pieces made the sink's value.
-    pub fn shown(&self) -> &[u8]
-        ensures bytes { λ r. ⌜ now r ≡ row-value (now (self .entry)) .bytes ⌝ }
-        ensures row { λ r. ⌜ ((cs : List Chunk) → row-value (now (self .entry)) ≡ made row-rule (fresh-row (now (self .entry) .wanted)) cs → now r ≡ shown-row (now (self .entry) .wanted) (all-bytes cs)) ⌝ }
-    {
-        &self.bytes[..self.len]
-    }
-
     // One more byte, which was announced.
     fn show(&mut self, b: u8)
         requires { ⌜ now self .taken < now self .announced ⌝ }
