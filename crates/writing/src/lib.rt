@@ -5,3 +5,4 @@ pub mod keep;
 pub mod lines;
 pub mod mark;
 pub mod piece;
+pub mod union;
