@@ -12,7 +12,7 @@ pub returns-in-Ok : need.returns-in-Ok
 returns-in-Ok c =
     let cs : List Chunk = chunks (c .args .pieces .now) in
     let e = c .in-Ok .ensures tt in
-    let w : c .new-row .result .wanted ≡ c .args .n = ap (λ (v : RowValue). v .wanted) (c .new-row .ensures .value) in
+    let w : c .new-row .result .wanted ≡ c .args .n = ap (λ (v : RowValue). v .wanted) (c .new-row .ensures .row) in
     record {
       answer = ap errPart (e .answer);
       shown = ap (λ (v : RowValue). v .bytes) (e .value refl ∙ ap (λ (n : ℕ). made row-rule (fresh-row n) cs) w) ∙ row-law (c .args .n) cs;
