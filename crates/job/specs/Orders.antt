@@ -18,7 +18,8 @@ use Rattle.rules.specs.Lines.{same-line}
 use Rattle.job.specs.declared.command.SheetKind.{SheetKind}
 use Rattle.job.specs.declared.command.SheetKind.the-variants.{Text, Cells}
 use Rattle.job.specs.declared.command.Command.{Command}
-use Rattle.job.specs.declared.command.Command.the-variants.{Nothing, Sheet, Lines, Row, Open, OpenBy, Enter, Withdraw, Held, Help}
+use Rattle.job.specs.declared.command.Command.the-variants.{Nothing, Sheet, Lines, Row, Open, OpenBy, Enter, Withdraw, Held, Size, Render, RenderRow, Help}
+use Rattle.job.specs.Modes.{Askable, Asked, asked, asked-text, read-asked}
 use Rattle.job.specs.Numbers.{Fits-32, last-number, number-then}
 use Rattle.job.specs.Words.{after, and-then, front-side, kind-word, or-else, side-named, side-word}
 
@@ -32,6 +33,9 @@ pub data Order : Type 0 where
   enter : Hunk → Order
   withdraw : Side → Order
   held : Order
+  size : Asked → Order
+  render : Asked → Order
+  render-row : ℕ → Asked → Order
   help : Order
 
 -- What a command asks for.
@@ -45,6 +49,9 @@ order (OpenBy a c o) = open-by a c o
 order (Enter hunk) = enter hunk
 order (Withdraw side) = withdraw side
 order Held = held
+order (Size r) = size (asked r)
+order (Render r) = render (asked r)
+order (RenderRow n r) = render-row n (asked r)
 order Help = help
 
 -- How a range is written: its start and its end with two dots between them; a hunk's two ranges with a slash between them.
@@ -68,6 +75,9 @@ spelled (open-by a c o) = codes "open " ++ numbers-text a c o
 spelled (enter h) = codes "enter " ++ (side-word (h .side) ++ (codes " " ++ hunk-text h))
 spelled (withdraw side) = codes "withdraw " ++ side-word side
 spelled held = codes "held"
+spelled (size a) = codes "size " ++ asked-text a
+spelled (render a) = codes "render " ++ asked-text a
+spelled (render-row n a) = codes "row " ++ (decimal n ++ (codes " " ++ asked-text a))
 spelled help = codes "help"
 
 -- A line that asks for nothing: it is empty, or a comment.
@@ -94,8 +104,18 @@ read-lines line = mapped lines (side-named line)
 abbrev pub row-order : Side → List ℕ → Option Order
 row-order side line = mapped (row side) (last-number line)
 
+abbrev pub read-side-row : List ℕ → Option Order
+read-side-row line = and-then (front-side line) row-order
+
+abbrev pub render-row-order : ℕ → List ℕ → Option Order
+render-row-order n line = mapped (render-row n) (read-asked line)
+
+abbrev pub read-render-row : List ℕ → Option Order
+read-render-row line = and-then (number-then (codes " ") line) render-row-order
+
+-- A row by its number is of a rendering, one behind a side's name is of that side's sheet.
 abbrev pub read-row : List ℕ → Option Order
-read-row line = and-then (front-side line) row-order
+read-row line = orOther (read-render-row line) (read-side-row line)
 
 -- Three numbers with a space between them: of the ancestor, the current and the other sheet.
 abbrev pub read-open : List ℕ → Option Order
@@ -121,6 +141,12 @@ read-enter line = and-then (front-side line) hunk-order
 abbrev pub read-withdraw : List ℕ → Option Order
 read-withdraw line = mapped withdraw (side-named line)
 
+abbrev pub read-size : List ℕ → Option Order
+read-size line = mapped size (read-asked line)
+
+abbrev pub read-render : List ℕ → Option Order
+read-render line = mapped render (read-asked line)
+
 -- The orders that are a word alone, or no word.
 abbrev pub read-alone : List ℕ → Option Order
 read-alone line =
@@ -137,13 +163,15 @@ read-worded line =
     (or-else (after (codes "row ") line) read-row
     (or-else (after (codes "open ") line) read-open
     (or-else (after (codes "enter ") line) read-enter
-    (or-else (after (codes "withdraw ") line) read-withdraw None)))))
+    (or-else (after (codes "withdraw ") line) read-withdraw
+    (or-else (after (codes "size ") line) read-size
+    (or-else (after (codes "render ") line) read-render None)))))))
 
 -- What a line asks for, or nothing where it is not understood.
 abbrev pub order-of : List ℕ → Option Order
 order-of line = orOther (read-alone line) (read-worded line)
 
--- The law of the reader: every order, spelled, reads back as itself, if only a path that it has is not empty and its numbers fit 32 bits.
+-- The law of the reader: every order, spelled, reads back as itself, if only a path that it has is not empty, its numbers fit 32 bits and no label holds a space.
 abbrev pub Spellable : Order → Type 0
 Spellable nothing = Unit {0}
 Spellable (sheet side kind path) = path ≡ [] → ⊥
@@ -154,6 +182,9 @@ Spellable (open-by a c o) = Fits-32 a × Fits-32 c × Fits-32 o
 Spellable (enter h) = Fits-32 (h .before .start) × Fits-32 (h .before .end) × Fits-32 (h .after .start) × Fits-32 (h .after .end)
 Spellable (withdraw side) = Unit {0}
 Spellable held = Unit {0}
+Spellable (size a) = Askable a
+Spellable (render a) = Askable a
+Spellable (render-row n a) = Fits-32 n × Askable a
 Spellable help = Unit {0}
 
 abbrev pub Reads-back : Type 0

@@ -4,14 +4,19 @@ ghost use lib.Chars.{codes};
 ghost use Rattle.std.specs.Of.Vec.{vec-items};
 ghost use Rattle.std.specs.Vec.{made};
 ghost use Rattle.std.specs.Written.{decimal};
+ghost use Rattle.job.specs.Modes.{asked, asked-text};
 ghost use Rattle.job.specs.Orders.{hunk-text, numbers-text, order, span-text, spelled};
 ghost use Rattle.job.specs.Words.{kind-word, side-word};
 use crate::command::Command;
+use crate::command::Rendering;
 use crate::command::SheetKind;
+use crate::spell::render::put_rendering;
 use rules::hunk::Hunk;
 use rules::hunk::Side;
 use rules::hunk::Span;
 use std::alloc::AllocError;
+
+mod render;
 
 /// Adds a command to a report as it is written in a job.
 pub fn spell(report: &mut Vec<u8>, command: Command<'_>) -> Result<(), AllocError>
@@ -31,6 +36,9 @@ pub fn spell(report: &mut Vec<u8>, command: Command<'_>) -> Result<(), AllocErro
         Command::Enter { hunk } => spell_enter(report, hunk),
         Command::Withdraw { side } => spell_sided(report, b"withdraw ", side),
         Command::Held => put(report, b"held"),
+        Command::Size { rendering } => spell_rendering(report, b"size ", rendering),
+        Command::Render { rendering } => spell_rendering(report, b"render ", rendering),
+        Command::RenderRow { row, rendering } => spell_render_row(report, row, rendering),
         Command::Help => put(report, b"help"),
     }
 }
@@ -89,6 +97,31 @@ fn spell_enter(report: &mut Vec<u8>, hunk: Hunk) -> Result<(), AllocError>
     spell_sided(report, b"enter ", hunk.side)?;
     put(report, b" ")?;
     put_hunk(report, hunk)
+}
+
+/// A word, its space with it, and what is asked of a rendering.
+fn spell_rendering(
+    report: &mut Vec<u8>,
+    word: &[u8],
+    rendering: Rendering<'_>,
+) -> Result<(), AllocError>
+    ensures { λ r. ⌜ made r (λ _. vec-items (now (report .exit)) ≡ vec-items (now (report .entry)) ++ (now (word .entry) ++ asked-text (asked (rendering .entry)))) ⌝ }
+{
+    put(report, word)?;
+    put_rendering(report, rendering)
+}
+
+fn spell_render_row(
+    report: &mut Vec<u8>,
+    row: u32,
+    rendering: Rendering<'_>,
+) -> Result<(), AllocError>
+    ensures { λ r. ⌜ made r (λ _. vec-items (now (report .exit)) ≡ vec-items (now (report .entry)) ++ (codes "row " ++ (decimal row ++ (codes " " ++ asked-text (asked (rendering .entry)))))) ⌝ }
+{
+    put(report, b"row ")?;
+    put_number(report, row)?;
+    put(report, b" ")?;
+    put_rendering(report, rendering)
 }
 
 /// Adds a hunk's two ranges to a report, with a slash between them.
