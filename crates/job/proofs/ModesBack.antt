@@ -1,7 +1,6 @@
 -- What is asked of a rendering, spelled, reads back as itself.
 use Prim.Native.Nat.{ℕ}
 use mathlib.Core.Path.{_≡_, refl, sym, _∙_, ap}
-use mathlib.Core.Bool.{true}
 use mathlib.Core.List.{List, [], _∷_, _++_, append-assoc}
 use lib.Chars.{codes}
 use Rattle.std.proofs.shelf.Lists.{append-nil}
@@ -13,7 +12,7 @@ use Rattle.rules.specs.declared.mode.Conflict.{Conflict}
 use Rattle.rules.specs.declared.mode.Conflict.the-variants.{Keep, ResolveWithOurs, ResolveWithTheirs, ResolveWithUnion}
 use Rattle.rules.specs.declared.mode.ConflictStyle.{ConflictStyle}
 use Rattle.rules.specs.declared.mode.ConflictStyle.the-variants.{Merge, Diff3, ZealousDiff3}
-use Rattle.rules.specs.Markers.{Labels, labels-of}
+use Rattle.rules.specs.Markers.{labels-of}
 use Rattle.job.specs.Numbers.{Fits-32, digit-count}
 use Rattle.job.specs.Words.{after, and-then, at-end}
 use Rattle.job.specs.Modes.{Asked, Askable, Mode-fits, Without-space, asked-of, asked-text, cut-label, front-label, front-mode, in-word, kept, label-after, label-text, labels-text, mode-text, read-asked, read-kept, read-labels, with-label, word-length}

@@ -13,8 +13,8 @@ use Rattle.job.specs.declared.command.SheetKind.{SheetKind}
 use Rattle.job.specs.declared.command.SheetKind.the-variants.{Text, Cells}
 use Rattle.job.specs.Modes.{Askable, Asked, asked-text}
 use Rattle.job.specs.Numbers.{Fits-32}
-use Rattle.job.specs.Orders.{Order, nothing, sheet, lines, row, open-by-sheets, open-by, enter, withdraw, held, size, render, render-row, help, hunk-of, hunk-order, hunk-text, numbers-text, order-of, read-open, read-render-row, read-side-row, render-row-order, spelled, Spellable, Reads-back}
-use Rattle.job.specs.Words.{and-then, side-word}
+use Rattle.job.specs.Orders.{nothing, sheet, lines, row, open-by-sheets, open-by, enter, withdraw, held, size, render, render-row, help, hunk-of, hunk-order, hunk-text, numbers-text, order-of, read-open, read-render-row, read-side-row, render-row-order, spelled, Reads-back}
+use Rattle.job.specs.Words.{and-then}
 use Rattle.job.proofs.ModesBack.{asked-back}
 use Rattle.job.proofs.NumbersBack.{marked-back, last-back}
 

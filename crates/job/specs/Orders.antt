@@ -1,7 +1,7 @@
 -- What a line of a job asks for, how it is read and how it is spelled.
 use Prim.Native.Nat.{ℕ}
 use mathlib.Core.Path.{_≡_}
-use mathlib.Core.Bool.{Bool, true, false, cond}
+use mathlib.Core.Bool.{Bool, true, cond}
 use mathlib.Core.List.{List, [], _∷_, _++_}
 use lib.Chars.{codes}
 use lib.Dec.{eqb}
@@ -12,7 +12,6 @@ use Rattle.std.specs.Options.{mapped, orOther}
 use Rattle.std.specs.Written.{decimal}
 use Rattle.rules.specs.declared.hunk.Hunk.{Hunk}
 use Rattle.rules.specs.declared.hunk.Side.{Side}
-use Rattle.rules.specs.declared.hunk.Side.the-variants.{Current, Other, Ancestor}
 use Rattle.rules.specs.declared.hunk.Span.{Span}
 use Rattle.rules.specs.Lines.{same-line}
 use Rattle.job.specs.declared.command.SheetKind.{SheetKind}

@@ -1,5 +1,4 @@
 ghost use mathlib.Core.Path.{_≡_};
-ghost use lib.Chars.{codes};
 ghost use Rattle.std.specs.Options.{mapped};
 ghost use Rattle.job.specs.Orders.{Reads-back, asks-nothing, order, order-of, read-alone, read-worded};
 use crate::command::Command;

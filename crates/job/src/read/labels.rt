@@ -1,7 +1,6 @@
 //! Labels at the end of a line.
-ghost use Prim.Native.Nat.{ℕ, _≤_};
+ghost use Prim.Native.Nat.{_≤_};
 ghost use mathlib.Core.Path.{_≡_};
-ghost use lib.Chars.{codes};
 ghost use lib.ListN.{length};
 ghost use Rattle.std.specs.Options.{mapped};
 ghost use Rattle.job.specs.Modes.{front-label, label-told, labels-told, read-labels, word-length};

@@ -1,6 +1,5 @@
 //! Modes at the front of a line.
 ghost use mathlib.Core.Path.{_≡_};
-ghost use lib.Chars.{codes};
 ghost use Rattle.std.specs.Options.{mapped};
 ghost use Rattle.job.specs.Modes.{front-mode, read-kept, resolving-mode};
 ghost use Rattle.job.specs.Words.{told};

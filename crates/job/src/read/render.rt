@@ -1,6 +1,5 @@
 //! The commands on renderings, behind their first word.
 ghost use mathlib.Core.Path.{_≡_};
-ghost use lib.Chars.{codes};
 ghost use Rattle.std.specs.Options.{mapped};
 ghost use Rattle.job.specs.Modes.{asked, read-asked};
 ghost use Rattle.job.specs.Orders.{order, read-render, read-render-row, read-row, read-size};

@@ -1,6 +1,5 @@
 //! The commands on sheets, behind their first word.
 ghost use mathlib.Core.Path.{_≡_};
-ghost use lib.Chars.{codes};
 ghost use Rattle.std.specs.Options.{mapped};
 ghost use Rattle.job.specs.Orders.{order, read-kind, read-lines, read-sheet, read-side-row, sheet-order};
 use crate::command::Command;

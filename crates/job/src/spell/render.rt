@@ -1,7 +1,6 @@
 //! What is asked of a rendering, spelled.
 ghost use mathlib.Core.Path.{_≡_};
-ghost use mathlib.Core.List.{List, [], _∷_, _++_};
-ghost use lib.Chars.{codes};
+ghost use mathlib.Core.List.{_++_};
 ghost use denote.Ref.{now as at-ref};
 ghost use Rattle.std.specs.Of.Vec.{vec-items};
 ghost use Rattle.std.specs.Options.{mapped};
