@@ -1,0 +1,2 @@
+//! The merge.
+pub mod whole;
