@@ -92,8 +92,9 @@ def renames():
     return table, kinds, goals
 
 
-def turn(text, table):
-    """The text with each name turned."""
+def turn(text, table, head=""):
+    """The text with each name turned; head has the use lines where the text is one line of a file."""
+    aliases = re.findall(r"(?m)^(?:ghost )?use Rattle\.[\w.+]+ as (\w+);?$", head or text)
     out, at = [], 0
     for m in TOKEN.finditer(text):
         word = m.group(0)
@@ -103,7 +104,7 @@ def turn(text, table):
         start = m.start()
         if start and text[start - 1] == ".":
             chain = re.search(r"[^\s(){}\[\],;]*$", text[:start]).group(0)
-            if not chain.startswith("Rattle.") and "field" not in kind:
+            if not chain.startswith("Rattle.") and chain[:-1] not in aliases and "field" not in kind:
                 continue
             if re.fullmatch(r"(c|l|w|goal|given|need)\.", chain):
                 continue
@@ -156,7 +157,9 @@ def main(argv):
             new = re.sub(r"`[^`\n]*`", lambda m: turn(m.group(0), table), text)
         else:
             # a comment is prose: "the second-last byte" is no name
-            new = "".join(l if l.lstrip().startswith("--") else turn(l, table) for l in text.splitlines(keepends=True))
+            # an alias stands in a line of the whole file
+            head = "".join(l for l in text.splitlines(keepends=True) if l.startswith("use "))
+            new = "".join(l if l.lstrip().startswith("--") else turn(l, table, head) for l in text.splitlines(keepends=True))
         if new != text:
             with open(p, "w", encoding="utf-8") as f:
                 f.write(new)

@@ -1,4 +1,5 @@
 //! The groups of the walk: which hunks the next one takes of each side, and a side filled over a group's range.
+#![tactic(auto)]
 
 pub mod fill;
 pub mod next;

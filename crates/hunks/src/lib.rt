@@ -1,4 +1,5 @@
 //! The hunks held of two sheets against their ancestor.
+#![tactic(auto)]
 
 pub mod list;
 pub mod run;

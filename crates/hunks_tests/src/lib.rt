@@ -1,4 +1,5 @@
 //! Examples of the hunk table's calls.
+#![tactic(auto)]
 
 #[cfg(test)]
 mod counts;

@@ -1,4 +1,6 @@
 //! A job: its commands as they are read and spelled, and how their outcomes are summed up.
+#![tactic(auto)]
+
 pub mod command;
 pub mod escape;
 pub mod lines;

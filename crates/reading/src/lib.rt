@@ -1,4 +1,5 @@
 //! Hunks read from three sheets: their lines, what two lists of hunks share, and the line endings that they show.
+#![tactic(auto)]
 
 pub mod ending;
 pub mod hunk;

@@ -45,7 +45,7 @@ outline_laws s cs os p =
       told = λ st n l. ap has_block (outlined s cs os p st n l) ∙ some_block st s 0 ks;
       with_ours = λ st n l l'. ap (spelled read.ours_part) (outlined s cs os p st n l) ∙ ours_spelled st s ks ∙ sym (ours_written s cs os l');
       with_theirs = λ st n l l'. ap (spelled read.theirs_part) (outlined s cs os p st n l) ∙ theirs_spelled st s ks ∙ sym (theirs_written s cs os l');
-      whole = λ st n l. ap (spelled read.every-part) (outlined s cs os p st n l) ∙ every_spelled st s n l cs os p;
+      whole = λ st n l. ap (spelled read.every_part) (outlined s cs os p st n l) ∙ every_spelled st s n l cs os p;
     }
 
 pub laws : (s : Sheets) (cs os : List Hunk) → Kept s cs os → Laws s cs os

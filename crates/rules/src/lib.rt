@@ -1,4 +1,6 @@
 //! The rules of the merge: its words as types, every rule as a definition in `specs/`, and the laws above them.
+#![tactic(auto)]
+
 pub mod ending;
 pub mod hunk;
 pub mod labels;

@@ -1,4 +1,6 @@
 //! Sheets: fixed lists of lines, kept as a text with a table of line starts or in cells of 48 bytes.
+#![tactic(auto)]
+
 pub mod cells;
 pub mod line;
 pub mod refusal;

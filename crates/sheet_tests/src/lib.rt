@@ -1,4 +1,6 @@
 //! Tests of the sheets, with every expected value written out by hand, and a kind of sheet of this crate's own.
+#![tactic(auto)]
+
 #[cfg(test)]
 mod ask;
 #[cfg(test)]

@@ -1,4 +1,6 @@
 //! Joins the sheets of a rope section: reads a job from standard input, one command a line, and prints what was done.
+#![tactic(auto)]
+
 mod file_sheet;
 mod report;
 mod sheets;

@@ -1,4 +1,5 @@
 //! Pieces, and the sinks that they are given to.
+#![tactic(auto)]
 
 pub mod page;
 pub mod piece;

@@ -1,4 +1,5 @@
 //! A sink of another crate, callers of the sinks, and tests.
+#![tactic(auto)]
 
 mod entry;
 mod log;
