@@ -7,8 +7,8 @@ use Rattle.hunks.proofs.Helds.{take_set_in}
 use Rattle.contract.proofs.Cutting.{placed_inside, ahead_cut, lent_ahead, lent_some, lent_none}
 use Rattle.contract.proofs.list.keep_ahead.Goals as goal
 
-pub keep-lines-requires : goal.keep-lines-requires
-keep-lines-requires g c =
+pub keep_lines-requires : goal.keep_lines-requires
+keep_lines-requires g c =
     let hs = held c.args.list.now in
     let ts = held c.truncate-else-lines-eq0.new.self in
     let y = c.in-Some.hunk.now in
@@ -21,15 +21,15 @@ returns-in-Some g c =
     let hs = held c.args.list.now in
     let l = c.truncate-else-lines-eq0.new.self in
     let y = c.in-Some.hunk.now in
-    let x = c.keep-lines.new.hunk in
+    let x = c.keep_lines.new.hunk in
     let lt = placed_inside c.args.whole c.args.lines hs c.requires (omega arith) in
-    ahead_cut c.args.whole c.args.lines hs (held l) _ x y lt (omega arith) c.truncate-else-lines-eq0.ensures (lent_some (held l) c.args.whole y c.in-Some.ensures) c.keep-lines.ensures (take_set_in l.len l.items c.args.whole x)
+    ahead_cut c.args.whole c.args.lines hs (held l) _ x y lt (omega arith) c.truncate-else-lines-eq0.ensures (lent_some (held l) c.args.whole y c.in-Some.ensures) c.keep_lines.ensures (take_set_in l.len l.items c.args.whole x)
 
-pub returns-in-default : goal.returns-in-default
-returns-in-default g c =
+pub returns-in_default : goal.returns-in_default
+returns-in_default g c =
     let hs = held c.args.list.now in
     let ts = held c.truncate-else-lines-eq0.new.self in
     let lt = placed_inside c.args.whole c.args.lines hs c.requires (omega arith) in
     let e : length ts ≡ c.args.whole + 1 = ap length c.truncate-else-lines-eq0.ensures ∙ length-take-le (c.args.whole + 1) hs (omega arith) in
-    let le = lent_none ts c.args.whole c.in-default.ensures in
+    let le = lent_none ts c.args.whole c.in_default.ensures in
     absurd (omega arith)

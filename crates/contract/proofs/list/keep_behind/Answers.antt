@@ -7,29 +7,29 @@ use Rattle.hunks.proofs.Helds.{take_set_in}
 use Rattle.contract.proofs.Cutting.{placed_inside, behind_cut, lent_behind, lent_some, lent_none}
 use Rattle.contract.proofs.list.keep_behind.Goals as goal
 
-pub drop-lines-requires : goal.drop-lines-requires
-drop-lines-requires g c =
+pub drop_lines-requires : goal.drop_lines-requires
+drop_lines-requires g c =
     let hs = held c.args.list.now in
-    let ts = held c.remove-front.new.self in
+    let ts = held c.remove_front.new.self in
     let y = c.in-Some.hunk.now in
     let lt = placed_inside c.args.whole c.args.lines hs c.requires (omega arith) in
-    let e = lent_behind c.args.whole hs ts y lt c.remove-front.ensures (lent_some ts 0 y c.in-Some.ensures) in
+    let e = lent_behind c.args.whole hs ts y lt c.remove_front.ensures (lent_some ts 0 y c.in-Some.ensures) in
     (omega arith, subst (λ (x : Hunk). c.args.lines ≤ hunk_size x) (sym e) c.requires.lines)
 
 pub returns-in-Some : goal.returns-in-Some
 returns-in-Some g c =
     let hs = held c.args.list.now in
-    let l = c.remove-front.new.self in
+    let l = c.remove_front.new.self in
     let y = c.in-Some.hunk.now in
-    let x = c.drop-lines.new.hunk in
+    let x = c.drop_lines.new.hunk in
     let lt = placed_inside c.args.whole c.args.lines hs c.requires (omega arith) in
-    behind_cut c.args.whole c.args.lines hs (held l) _ x y lt (omega arith) c.remove-front.ensures (lent_some (held l) 0 y c.in-Some.ensures) c.drop-lines.ensures (take_set_in l.len l.items 0 x)
+    behind_cut c.args.whole c.args.lines hs (held l) _ x y lt (omega arith) c.remove_front.ensures (lent_some (held l) 0 y c.in-Some.ensures) c.drop_lines.ensures (take_set_in l.len l.items 0 x)
 
-pub returns-in-default : goal.returns-in-default
-returns-in-default g c =
+pub returns-in_default : goal.returns-in_default
+returns-in_default g c =
     let hs = held c.args.list.now in
-    let ts = held c.remove-front.new.self in
+    let ts = held c.remove_front.new.self in
     let lt = placed_inside c.args.whole c.args.lines hs c.requires (omega arith) in
-    let e : length ts ≡ length hs - c.args.whole = ap length c.remove-front.ensures ∙ length-drop c.args.whole hs in
-    let le = lent_none ts 0 c.in-default.ensures in
+    let e : length ts ≡ length hs - c.args.whole = ap length c.remove_front.ensures ∙ length-drop c.args.whole hs in
+    let le = lent_none ts 0 c.in_default.ensures in
     absurd (omega arith)

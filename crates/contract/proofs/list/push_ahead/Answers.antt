@@ -14,13 +14,13 @@ returns-then-lines-gt0 g c =
     let k = c.args.lines in
     let hs = c.args.hunks.now in
     let p = held c.args.list.now in
-    let q = held c.push-all.new.self in
-    let x = c.keep-lines.new.hunk in
+    let q = held c.push_all.new.self in
+    let x = c.keep_lines.new.hunk in
     let room = c.requires.1 in
     let r = ahead_room_some w k hs (omega arith) in
-    let eq : q ≡ p ++ take w hs = c.push-all.ensures.after ∙ pushed_all_room g.row.N p (take w hs) (omega arith) in
+    let eq : q ≡ p ++ take w hs = c.push_all.ensures.after ∙ pushed_all_room g.row.N p (take w hs) (omega arith) in
     let l = ap length eq ∙ length-append p (take w hs) in
-    pushed_ahead w k hs p q _ x (omega arith) eq c.keep-lines.ensures (c.push.ensures.after ∙ pushed_room g.row.N q x (omega arith))
+    pushed_ahead w k hs p q _ x (omega arith) eq c.keep_lines.ensures (c.push.ensures.after ∙ pushed_room g.row.N q x (omega arith))
 
 pub returns-else-lines-gt0 : goal.returns-else-lines-gt0
 returns-else-lines-gt0 g c =
@@ -30,4 +30,4 @@ returns-else-lines-gt0 g c =
     let p = held c.args.list.now in
     let room = c.requires.1 in
     let r = ahead_room w k hs in
-    pushed_ahead_none w k hs p _ (omega arith) (c.push-all.ensures.after ∙ pushed_all_room g.row.N p (take w hs) (omega arith))
+    pushed_ahead_none w k hs p _ (omega arith) (c.push_all.ensures.after ∙ pushed_all_room g.row.N p (take w hs) (omega arith))

@@ -8,13 +8,13 @@ use Rattle.contract.proofs.list.push_behind.Goals as goal
 pub bounds-hunks-whole : goal.bounds-hunks-whole
 bounds-hunks-whole g c = placed_inside c.args.whole c.args.lines c.args.hunks.now c.requires.0 (omega arith)
 
-pub slice-bounds-push-all-count-else-lines-eq0 : goal.slice-bounds-push-all-count-else-lines-eq0
-slice-bounds-push-all-count-else-lines-eq0 g c =
+pub slice_bounds-push_all-count-else-lines-eq0 : goal.slice_bounds-push_all-count-else-lines-eq0
+slice_bounds-push_all-count-else-lines-eq0 g c =
     let lt = placed_inside c.args.whole c.args.lines c.args.hunks.now c.requires.0 (omega arith) in
     omega arith
 
-pub slice-bounds-push-all-start-else-lines-eq0 : goal.slice-bounds-push-all-start-else-lines-eq0
-slice-bounds-push-all-start-else-lines-eq0 g c =
+pub slice_bounds-push_all-start-else-lines-eq0 : goal.slice_bounds-push_all-start-else-lines-eq0
+slice_bounds-push_all-start-else-lines-eq0 g c =
     let lt = placed_inside c.args.whole c.args.lines c.args.hunks.now c.requires.0 (omega arith) in
     omega arith
 
@@ -28,7 +28,7 @@ returns-then-lines-eq0 g c =
     let room = c.requires.1 in
     let r = behind_length w k hs c.requires.0 in
     let e : length ts ≡ length hs - w = ap length (take_rest hs w) ∙ length-drop w hs in
-    pushed_behind_none w k hs p _ (omega arith) (c.push-all.ensures.after ∙ pushed_all_room g.row.N p ts (omega arith))
+    pushed_behind_none w k hs p _ (omega arith) (c.push_all.ensures.after ∙ pushed_all_room g.row.N p ts (omega arith))
 
 pub returns-else-lines-eq0 : goal.returns-else-lines-eq0
 returns-else-lines-eq0 g c =
@@ -37,7 +37,7 @@ returns-else-lines-eq0 g c =
     let hs = c.args.hunks.now in
     let p = held c.args.list.now in
     let q = held c.push.new.self in
-    let x = c.drop-lines.new.hunk in
+    let x = c.drop_lines.new.hunk in
     let ts = take (length hs - (w + 1)) (drop (w + 1) hs) in
     let room = c.requires.1 in
     let lt = placed_inside w k hs c.requires.0 (omega arith) in
@@ -45,4 +45,4 @@ returns-else-lines-eq0 g c =
     let e : length ts ≡ length hs - (w + 1) = ap length (take_rest hs (w + 1)) ∙ length-drop (w + 1) hs in
     let eq : q ≡ p ++ (x ∷ []) = c.push.ensures.after ∙ pushed_room g.row.N p x (omega arith) in
     let l = ap length eq ∙ length-append p (x ∷ []) in
-    pushed_behind w k hs p q _ x (omega arith) eq c.drop-lines.ensures (c.push-all-else-lines-eq0.ensures.after ∙ pushed_all_room g.row.N q ts (omega arith))
+    pushed_behind w k hs p q _ x (omega arith) eq c.drop_lines.ensures (c.push_all-else-lines-eq0.ensures.after ∙ pushed_all_room g.row.N q ts (omega arith))

@@ -10,48 +10,48 @@ use Rattle.reading.proofs.Counting.{counted, few_counted}
 use Rattle.contract.proofs.Contracting.{back_few, shared_back_few}
 use Rattle.contract.proofs.zealous.contract_back.Goals as goal
 
-pub gain-back-requires : goal.gain-back-requires
-gain-back-requires g c =
+pub gain_back-requires : goal.gain_back-requires
+gain_back-requires g c =
     let a = held c.args.lead.now in
-    let n = c.count-lines.result - c.shared-back-n.result in
-    let f = ap (λ (v : List Hunk). length (cut_back n v).behind) c.as-slice-5.ensures in
+    let n = c.count_lines.result - c.shared_back-n.result in
+    let f = ap (λ (v : List Hunk). length (cut_back n v).behind) c.as_slice-5.ensures in
     let h = back_few n a in
     let r = c.requires.room in
     (lit< tt, omega arith)
 
-pub count-lines-requires : goal.count-lines-requires
-count-lines-requires g c =
+pub count_lines-requires : goal.count_lines-requires
+count_lines-requires g c =
     let s = g.T.ThreeSheets.sheets c.args.three.now in
     let a = held c.args.lead.now in
     let b = held c.args.facing.now in
     let few = g.T.ThreeSheets.formed c.args.three.now in
-    subst (λ (v : List Hunk). line_count v < 4294967296) (sym c.as-slice-3.ensures) (few_counted s few a c.requires.ours (omega (arith, held_length c.args.lead.now, c.args.lead.now.fits.0)))
+    subst (λ (v : List Hunk). line_count v < 4294967296) (sym c.as_slice-3.ensures) (few_counted s few a c.requires.ours (omega (arith, held_length c.args.lead.now, c.args.lead.now.fits.0)))
 
-pub overflow-sub-ours : goal.overflow-sub-ours
-overflow-sub-ours g c =
+pub overflow_sub-ours : goal.overflow_sub-ours
+overflow_sub-ours g c =
     let s = g.T.ThreeSheets.sheets c.args.three.now in
     let a = held c.args.lead.now in
     let b = held c.args.facing.now in
-    let eb = c.shared-back-n.ensures ∙ ap₂ (λ (x y : List Hunk). shared_back (side_lines s x) (side_lines s y)) c.as-slice.ensures c.as-slice-2.ensures in
-    let co = c.count-lines.ensures ∙ (ap line_count c.as-slice-3.ensures ∙ sym (counted s a c.requires.ours)) in
+    let eb = c.shared_back-n.ensures ∙ ap₂ (λ (x y : List Hunk). shared_back (side_lines s x) (side_lines s y)) c.as_slice.ensures c.as_slice-2.ensures in
+    let co = c.count_lines.ensures ∙ (ap line_count c.as_slice-3.ensures ∙ sym (counted s a c.requires.ours)) in
     let w = (shared_back_few (side_lines s a) (side_lines s b)).0 in
     omega arith
 
-pub count-lines-requires-2 : goal.count-lines-requires-2
-count-lines-requires-2 g c =
+pub count_lines-requires-2 : goal.count_lines-requires-2
+count_lines-requires-2 g c =
     let s = g.T.ThreeSheets.sheets c.args.three.now in
     let a = held c.args.lead.now in
     let b = held c.args.facing.now in
     let few = g.T.ThreeSheets.formed c.args.three.now in
-    subst (λ (v : List Hunk). line_count v < 4294967296) (sym c.as-slice-4.ensures) (few_counted s few b c.requires.theirs (omega (arith, held_length c.args.facing.now, c.args.facing.now.fits.0)))
+    subst (λ (v : List Hunk). line_count v < 4294967296) (sym c.as_slice-4.ensures) (few_counted s few b c.requires.theirs (omega (arith, held_length c.args.facing.now, c.args.facing.now.fits.0)))
 
-pub overflow-sub-theirs : goal.overflow-sub-theirs
-overflow-sub-theirs g c =
+pub overflow_sub-theirs : goal.overflow_sub-theirs
+overflow_sub-theirs g c =
     let s = g.T.ThreeSheets.sheets c.args.three.now in
     let a = held c.args.lead.now in
     let b = held c.args.facing.now in
-    let eb = c.shared-back-n.ensures ∙ ap₂ (λ (x y : List Hunk). shared_back (side_lines s x) (side_lines s y)) c.as-slice.ensures c.as-slice-2.ensures in
-    let ct = c.count-lines-2.ensures ∙ (ap line_count c.as-slice-4.ensures ∙ sym (counted s b c.requires.theirs)) in
+    let eb = c.shared_back-n.ensures ∙ ap₂ (λ (x y : List Hunk). shared_back (side_lines s x) (side_lines s y)) c.as_slice.ensures c.as_slice-2.ensures in
+    let ct = c.count_lines-2.ensures ∙ (ap line_count c.as_slice-4.ensures ∙ sym (counted s b c.requires.theirs)) in
     let w = (shared_back_few (side_lines s a) (side_lines s b)).1 in
     omega arith
 
@@ -60,13 +60,13 @@ returns g c =
     let s = g.T.ThreeSheets.sheets c.args.three.now in
     let a = held c.args.lead.now in
     let b = held c.args.facing.now in
-    let eb = c.shared-back-n.ensures ∙ ap₂ (λ (x y : List Hunk). shared_back (side_lines s x) (side_lines s y)) c.as-slice.ensures c.as-slice-2.ensures in
-    let co = c.count-lines.ensures ∙ (ap line_count c.as-slice-3.ensures ∙ sym (counted s a c.requires.ours)) in
-    let ct = c.count-lines-2.ensures ∙ (ap line_count c.as-slice-4.ensures ∙ sym (counted s b c.requires.theirs)) in
+    let eb = c.shared_back-n.ensures ∙ ap₂ (λ (x y : List Hunk). shared_back (side_lines s x) (side_lines s y)) c.as_slice.ensures c.as_slice-2.ensures in
+    let co = c.count_lines.ensures ∙ (ap line_count c.as_slice-3.ensures ∙ sym (counted s a c.requires.ours)) in
+    let ct = c.count_lines-2.ensures ∙ (ap line_count c.as_slice-4.ensures ∙ sym (counted s b c.requires.theirs)) in
     let na = ap₂ ◌-◌ co eb in
     let nb = ap₂ ◌-◌ ct eb in
     record {
-      lead = c.lose-back.ensures ∙ ap (λ n. (cut_back n a).ahead) na;
-      facing = c.lose-back-2.ensures ∙ ap (λ n. (cut_back n b).ahead) nb;
-      removed = c.gain-back.ensures ∙ (ap (λ (v : List Hunk). held c.args.removed.now ++ (cut_back (c.count-lines.result - c.shared-back-n.result) v).behind) c.as-slice-5.ensures ∙ ap (λ n. held c.args.removed.now ++ (cut_back n a).behind) na);
+      lead = c.lose_back.ensures ∙ ap (λ n. (cut_back n a).ahead) na;
+      facing = c.lose_back-2.ensures ∙ ap (λ n. (cut_back n b).ahead) nb;
+      removed = c.gain_back.ensures ∙ (ap (λ (v : List Hunk). held c.args.removed.now ++ (cut_back (c.count_lines.result - c.shared_back-n.result) v).behind) c.as_slice-5.ensures ∙ ap (λ n. held c.args.removed.now ++ (cut_back n a).behind) na);
     }

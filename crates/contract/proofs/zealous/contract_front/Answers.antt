@@ -6,12 +6,12 @@ use Rattle.hunks.proofs.Helds.{held_length}
 use Rattle.contract.proofs.Contracting.{front_few}
 use Rattle.contract.proofs.zealous.contract_front.Goals as goal
 
-pub gain-front-requires : goal.gain-front-requires
-gain-front-requires g c =
+pub gain_front-requires : goal.gain_front-requires
+gain_front-requires g c =
     let l = c.args.lead.now in
-    let n = c.shared-front-n.result in
+    let n = c.shared_front-n.result in
     let e = ap length c.truncate.ensures in
-    let f = ap (λ (v : List Hunk). length (cut_front n v).ahead) c.as-slice-3.ensures in
+    let f = ap (λ (v : List Hunk). length (cut_front n v).ahead) c.as_slice-3.ensures in
     let h = front_few n (held l) in
     let k = held_length l in
     let m = l.fits.0 in

@@ -13,15 +13,15 @@ loop-hunk-preserved c =
     let hs = c.args.hunks.now in
     let i = c.loop-hunk.hunk-index in
     let xs = held c.loop-hunk.list in
-    let ys = held c.push-stretch.new.list in
+    let ys = held c.push_stretch.new.list in
     let h = get_or hs i no_hunk in
-    let few : length ys ≤ 2 * i + 1 = ahead_length xs ys i c.loop-hunk.at h.before.start c.push-stretch.ensures c.loop-hunk.invariant.0 in
+    let few : length ys ≤ 2 * i + 1 = ahead_length xs ys i c.loop-hunk.at h.before.start c.push_stretch.ensures c.loop-hunk.invariant.0 in
     let added = c.push.ensures.after ∙ pushed_room max_filled ys h (omega arith) in
-    let a : Adds hs xs ys (held c.push.new.self) i c.loop-hunk.at = record { below = c.loop-hunk-test.true; ahead = c.push-stretch.ensures; hunk = added } in
+    let a : Adds hs xs ys (held c.push.new.self) i c.loop-hunk.at = record { below = c.loop-hunk-test.true; ahead = c.push_stretch.ensures; hunk = added } in
     (hunk_length ys _ h i added few, fill_step hs xs ys _ _ i c.loop-hunk.at c.args.range.end a c.loop-hunk.invariant.1)
 
 pub returns : goal.returns
 returns c =
-    c.push-stretch-2.ensures
+    c.push_stretch-2.ensures
     ∙ (ap (λ (v : List Hunk). held c.loop-hunk.list ++ v) (sym (at_drop_all (filled c.loop-hunk.at c.args.range.end) c.args.hunks.now c.loop-hunk.hunk-index c.loop-hunk-test.false))
     ∙ c.loop-hunk.invariant.1)

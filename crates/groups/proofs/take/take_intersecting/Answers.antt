@@ -10,7 +10,7 @@ group-init c =
     let cs = c.args.current.now in
     let os = c.args.other.now in
     let k = c.requires.kept in
-    let e = c.one-of-i.ensures in
+    let e = c.one_of-i.ensures in
     subst (λ p. Growing cs os p.0 p.1) (sym e) (started cs os c.args.first (our_run cs os k) (their_run cs os k) c.requires.leads)
 
 pub loop-j-smaller : goal.loop-j-smaller
@@ -28,16 +28,16 @@ loop-j-preserved c =
     let p = c.loop-j.invariant.1 in
     (grow_other cs os (our_run cs os k) (their_run cs os k) _ _ g c.loop-j-test.ensures, omega arith)
 
-pub is-offered-requires-in-more-2 : goal.is-offered-requires-in-more-2
-is-offered-requires-in-more-2 c =
+pub is_offered-requires-in-more-2 : goal.is_offered-requires-in-more-2
+is_offered-requires-in-more-2 c =
     let g = c.more.invariant.0 in
-    let o : c.more.i < length c.args.current.now = offered_below c.args.current.now c.args.other.now c.more.i c.loop-j.j g.their_bound c.if-not-is-offered.ensures in
+    let o : c.more.i < length c.args.current.now = offered_below c.args.current.now c.args.other.now c.more.i c.loop-j.j g.their_bound c.if-not-is_offered.ensures in
     omega arith
 
 pub group-smaller : goal.group-smaller
 group-smaller c =
     let g = c.more.invariant.0 in
-    let o : c.more.i < length c.args.current.now = offered_below c.args.current.now c.args.other.now c.more.i c.loop-j.j g.their_bound c.if-not-is-offered.ensures in
+    let o : c.more.i < length c.args.current.now = offered_below c.args.current.now c.args.other.now c.more.i c.loop-j.j g.their_bound c.if-not-is_offered.ensures in
     let p = c.more.invariant.1 in
     let q = c.loop-j.invariant.1 in
     let b = g.their_bound in
@@ -48,12 +48,12 @@ group-preserved c =
     let cs = c.args.current.now in
     let os = c.args.other.now in
     let k = c.requires.kept in
-    grow_current cs os (our_run cs os k) (their_run cs os k) _ _ c.more.invariant.0 c.if-not-is-offered.ensures
+    grow_current cs os (our_run cs os k) (their_run cs os k) _ _ c.more.invariant.0 c.if-not-is_offered.ensures
 
 pub more-smaller : goal.more-smaller
 more-smaller c =
     let g = c.more.invariant.0 in
-    let o : c.more.i < length c.args.current.now = offered_below c.args.current.now c.args.other.now c.more.i c.loop-j.j g.their_bound c.if-not-is-offered.ensures in
+    let o : c.more.i < length c.args.current.now = offered_below c.args.current.now c.args.other.now c.more.i c.loop-j.j g.their_bound c.if-not-is_offered.ensures in
     omega arith
 
 pub more-preserved : goal.more-preserved
@@ -62,12 +62,12 @@ more-preserved c =
     let os = c.args.other.now in
     let k = c.requires.kept in
     let p = c.more.invariant.1 in
-    (grow_current cs os (our_run cs os k) (their_run cs os k) _ _ c.more.invariant.0 c.if-not-is-offered.ensures, omega arith, c.if-is-offered.ensures)
+    (grow_current cs os (our_run cs os k) (their_run cs os k) _ _ c.more.invariant.0 c.if-not-is_offered.ensures, omega arith, c.if-is_offered.ensures)
 
 pub returns : goal.returns
 returns c =
     let cs = c.args.current.now in
     let os = c.args.other.now in
     let k = c.requires.kept in
-    let t = complete cs os (our_run cs os k) (their_run cs os k) _ _ c.more.invariant.0 c.more.invariant.2 c.if-not-is-offered.ensures in
+    let t = complete cs os (our_run cs os k) (their_run cs os k) _ _ c.more.invariant.0 c.more.invariant.2 c.if-not-is_offered.ensures in
     record { numbers = taken_is cs os _ _ t; rest = t }

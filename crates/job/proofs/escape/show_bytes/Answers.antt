@@ -9,7 +9,7 @@ one_on xs ys zs t i e h g =
 
 pub loop-b-preserved : goal.loop-b-preserved
 loop-b-preserved c =
-    one_on _ _ _ c.args.bytes.now c.loop-b.b-index c.in-ok-show-byte.ensures
+    one_on _ _ _ c.args.bytes.now c.loop-b.b-index c.in_ok-show_byte.ensures
     (at_drop_more shown c.args.bytes.now c.loop-b.b-index 0 c.loop-b-test.true) c.loop-b.invariant
 
 pub returns : goal.returns

@@ -13,4 +13,4 @@ once (Failed ∷ os) = let h = once os in omega arith
 once (NotUnderstood ∷ os) = let h = once os in omega arith
 
 pub returns : goal.returns
-returns c = let h = once c.args.outcomes.now in record { answer = search rules; once = omega (arith, c.count-of.ensures, c.count-of-2.ensures, c.count-of-3.ensures, c.count-of-4.ensures) }
+returns c = let h = once c.args.outcomes.now in record { answer = search rules; once = omega (arith, c.count_of.ensures, c.count_of-2.ensures, c.count_of-3.ensures, c.count_of-4.ensures) }

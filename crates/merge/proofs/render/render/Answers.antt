@@ -19,12 +19,12 @@ returns g c =
     let t = model c.args.table.now in
     let a = asked c.args.mode c.args.labels (g.S.Sink.capacity c.args.sink.now) in
     let s : Sheets = three_lists (g.A.Sheet.sheet c.args.ancestor.now) (g.C.Sheet.sheet c.args.current.now) (g.O.Sheet.sheet c.args.other.now) in
-    let x = c.sheets-of-three.ensures in
+    let x = c.sheets_of-three.ensures in
     let e = same_three _ _ _ _ _ _ (ap g.A.Sheet.sheet x.ancestor) (ap g.C.Sheet.sheet x.current) (ap g.O.Sheet.sheet x.other) in
-    let r = c.render-of.ensures in
+    let r = c.render_of.ensures in
     let k₀ = sink_at (g.S.Sink.announced c.args.sink.now) (g.S.Sink.taken c.args.sink.now) (g.S.Sink.value c.args.sink.now) in
-    let k₁ = sink_at (g.S.Sink.announced c.render-of.new.sink) (g.S.Sink.taken c.render-of.new.sink) (g.S.Sink.value c.render-of.new.sink) in
-    let answer : c.render-of.result ≡ render_answer t s a = r.answer ∙ ap (λ (y : Sheets). render_answer t y a) e in
+    let k₁ = sink_at (g.S.Sink.announced c.render_of.new.sink) (g.S.Sink.taken c.render_of.new.sink) (g.S.Sink.value c.render_of.new.sink) in
+    let answer : c.render_of.result ≡ render_answer t s a = r.answer ∙ ap (λ (y : Sheets). render_answer t y a) e in
     let sink : k₁ ≡ render_sink g.S.Sink.rule (g.S.Sink.fresh c.args.sink.now) t s a k₀ = r.sink ∙ ap (λ (y : Sheets). render_sink g.S.Sink.rule (g.S.Sink.fresh c.args.sink.now) t y a k₀) e in
     record {
       answer = answer;

@@ -25,14 +25,14 @@ use Rattle.merge.proofs.Admitted.{Admitted, admitted, size_yes, size_is, refused
 use Rattle.merge.proofs.Rendered.{same_sink, written_sink, refused_answer, refused_sink, given_answer, given_sink}
 use Rattle.merge.proofs.render.render_of.Goals as goal
 
-pub returns-in-err-needed : goal.returns-in-err-needed
-returns-in-err-needed g c =
+pub returns-in_err-needed : goal.returns-in_err-needed
+returns-in_err-needed g c =
     let t = model c.args.table.now in
     let s = g.T.ThreeSheets.sheets c.args.three.now in
     let a = asked c.args.mode c.args.labels (g.S.Sink.capacity c.args.sink.now) in
-    let r = c.in-err-needed.field-0.0 in
-    let k : c.from-residual.result ≡ Err c.in-err-needed.field-0.0 = search rules in
-    let q : render_questions t s a ≡ Some r = refused_too t s a r (sym c.in-err-needed.ensures) in
+    let r = c.in_err-needed.field-0.0 in
+    let k : c.from-residual.result ≡ Err c.in_err-needed.field-0.0 = search rules in
+    let q : render_questions t s a ≡ Some r = refused_too t s a r (sym c.in_err-needed.ensures) in
     record {
       answer = k ∙ refused_answer t s a r q;
       sink = refused_sink t s a g.S.Sink.rule (g.S.Sink.fresh c.args.sink.now) (sink_at (g.S.Sink.announced c.args.sink.now) (g.S.Sink.taken c.args.sink.now) (g.S.Sink.value c.args.sink.now)) r q;
@@ -42,14 +42,14 @@ returns-in-err-needed g c =
       refused = λ _. refl;
     }
 
-pub write-merge-marked-requires : goal.write-merge-marked-requires
-write-merge-marked-requires g c =
+pub write_merge-marked-requires : goal.write_merge-marked-requires
+write_merge-marked-requires g c =
     let t = model c.args.table.now in
     let s = g.T.ThreeSheets.sheets c.args.three.now in
     let cap : ℕ = g.S.Sink.capacity c.args.sink.now in
     let a = asked c.args.mode c.args.labels cap in
-    let n = c.in-ok-needed.needed in
-    let e = sym c.in-ok-needed.ensures in
+    let n = c.in_ok-needed.needed in
+    let e = sym c.in_ok-needed.ensures in
     let y = admitted t s c.args.mode (labels_in c.args.labels) (table_keeps c.args.table.now) (size_yes t s a n e) in
     let b = c.in-Ok.ensures in
     let fits : n ≤ cap = begun n cap (Ok tt) b.answer refl in
@@ -68,8 +68,8 @@ returns-in-Err g c =
     let s = g.T.ThreeSheets.sheets c.args.three.now in
     let cap : ℕ = g.S.Sink.capacity c.args.sink.now in
     let a = asked c.args.mode c.args.labels cap in
-    let n = c.in-ok-needed.needed in
-    let e = sym c.in-ok-needed.ensures in
+    let n = c.in_ok-needed.needed in
+    let e = sym c.in_ok-needed.ensures in
     let b = c.in-Err.ensures in
     let over : cap < n = not_begun n cap (Err c.in-Err.field-0) b.answer refl in
     let k : c.in-Err.field-0.capacity ≡ cap = told n cap c.in-Err.field-0 b.answer in
@@ -92,18 +92,18 @@ returns-in-Ok g c =
     let s = g.T.ThreeSheets.sheets c.args.three.now in
     let cap : ℕ = g.S.Sink.capacity c.args.sink.now in
     let a = asked c.args.mode c.args.labels cap in
-    let n = c.in-ok-needed.needed in
-    let e = sym c.in-ok-needed.ensures in
+    let n = c.in_ok-needed.needed in
+    let e = sym c.in_ok-needed.ensures in
     let b = c.in-Ok.ensures in
-    let w = c.write-merge-marked.ensures in
+    let w = c.write_merge-marked.ensures in
     let fits : n ≤ cap = begun n cap (Ok tt) b.answer refl in
     let q : render_questions t s a ≡ None = has_room t s a n e (le-leb n cap fits) in
     let l : n ≡ total (rendering c.args.mode s (labels_in c.args.labels) c.current-ours.result.now c.other-theirs.result.now) =
     sym (size_is t s a n e) ∙ ap₂ (λ (x y : List Hunk). total (rendering c.args.mode s (labels_in c.args.labels) x y)) (sym c.current-ours.ensures) (sym c.other-theirs.ensures) in
     record {
       answer =
-          given_answer t s a c.verdict-of.result
-          (c.verdict-of.ensures ∙ ap (λ (x : Bool). cond x (marked_verdict c.args.mode) Complete) w.marked ∙ ap₂ (λ (x y : List Hunk). verdict c.args.mode s x y) c.current-ours.ensures c.other-theirs.ensures)
+          given_answer t s a c.verdict_of.result
+          (c.verdict_of.ensures ∙ ap (λ (x : Bool). cond x (marked_verdict c.args.mode) Complete) w.marked ∙ ap₂ (λ (x y : List Hunk). verdict c.args.mode s x y) c.current-ours.ensures c.other-theirs.ensures)
           q;
       sink =
           written_sink g.S.Sink.rule (g.S.Sink.fresh c.args.sink.now) _ _ _ _ _ _ _ (steps_from c.args.mode s (labels_in c.args.labels) 0 (clusters (walk c.current-ours.result.now c.other-theirs.result.now))) w.written (b.value fits) (b.taken fits) (b.announced fits ∙ l) ∙

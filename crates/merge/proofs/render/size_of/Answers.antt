@@ -8,14 +8,14 @@ use Rattle.writing.specs.Marks.{labels_in}
 use Rattle.merge.proofs.Admitted.{admitted, answered_yes, refused_alike, sized}
 use Rattle.merge.proofs.render.size_of.Goals as goal
 
-pub returns-in-err-admit : goal.returns-in-err-admit
-returns-in-err-admit g c =
-    let k : c.from-residual.result ≡ Err c.in-err-admit.field-0.0 = search rules in
-    k ∙ refused_alike (model c.args.table.now) (g.T.ThreeSheets.sheets c.args.three.now) c.args.mode (labels_in c.args.labels) c.in-err-admit.field-0.0 tt (sym c.in-err-admit.ensures)
+pub returns-in_err-admit : goal.returns-in_err-admit
+returns-in_err-admit g c =
+    let k : c.from-residual.result ≡ Err c.in_err-admit.field-0.0 = search rules in
+    k ∙ refused_alike (model c.args.table.now) (g.T.ThreeSheets.sheets c.args.three.now) c.args.mode (labels_in c.args.labels) c.in_err-admit.field-0.0 tt (sym c.in_err-admit.ensures)
 
 pub measure-requires : goal.measure-requires
 measure-requires g c =
-    let a = admitted (model c.args.table.now) (g.T.ThreeSheets.sheets c.args.three.now) c.args.mode (labels_in c.args.labels) (table_keeps c.args.table.now) (answered_yes _ tt c.in-ok-admit.field-0 (sym c.in-ok-admit.ensures)).0 in
+    let a = admitted (model c.args.table.now) (g.T.ThreeSheets.sheets c.args.three.now) c.args.mode (labels_in c.args.labels) (table_keeps c.args.table.now) (answered_yes _ tt c.in_ok-admit.field-0 (sym c.in_ok-admit.ensures)).0 in
     record {
       hunks = subst₂ (λ (x y : List Hunk). Kept (g.T.ThreeSheets.sheets c.args.three.now) x y) (sym c.current.ensures) (sym c.other.ensures) a.kept;
       few = subst₂ (λ (x y : List Hunk). (length x ≤ max_hunks) × (length y ≤ max_hunks)) (sym c.current.ensures) (sym c.other.ensures) a.few;

@@ -21,7 +21,7 @@ loop-n-init g c = (going_none _ _ _ _ _ _ _ _ _ (λ k. refl), refl, refl)
 pub loop-n-preserved : goal.loop-n-preserved
 loop-n-preserved g c =
     let i = c.loop-n.invariant in
-    let e = c.make-call-answer.ensures in (
+    let e = c.make_call-answer.ensures in (
       going_on _ _ _ _ _ _ _ _ _ _ _ _ _ _ _ _ _ _ _ _ _ i.2 i.1 i.0 (drop_more c.args.calls.now c.loop-n.n _ c.loop-n-test.true) e.table e.answer c.note.ensures e.sink (λ k h z. e.rest k h ∙ z),
       e.fresh ∙ i.1,
       e.capacity ∙ i.2,

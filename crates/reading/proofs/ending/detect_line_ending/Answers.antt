@@ -16,9 +16,9 @@ returns g c =
 pub returns-then-hunk-2 : goal.returns-then-hunk-2
 returns-then-hunk-2 g c =
     let s = g.T.ThreeSheets.sheets c.args.three.now in
-    c.ending-before-then-hunk-2.ensures ∙ by_before s _ (iter_rest c.loop-hunk.hunk-iterator.iter) (iter_rest c.next.new.self.iter) c.in-Some.hunk.now c.in-Some.ensures.steps c.loop-hunk.invariant.2 c.if-hunk.false c.if-hunk-2.true
+    c.ending_before-then-hunk-2.ensures ∙ by_before s _ (iter_rest c.loop-hunk.hunk-iterator.iter) (iter_rest c.next.new.self.iter) c.in-Some.hunk.now c.in-Some.ensures.steps c.loop-hunk.invariant.2 c.if-hunk.false c.if-hunk-2.true
 
 pub returns-then-hunk : goal.returns-then-hunk
 returns-then-hunk g c =
     let s = g.T.ThreeSheets.sheets c.args.three.now in
-    c.ending-before.ensures ∙ by_after s _ (iter_rest c.loop-hunk.hunk-iterator.iter) (iter_rest c.next.new.self.iter) c.in-Some.hunk.now c.in-Some.ensures.steps c.loop-hunk.invariant.2 c.if-hunk.true
+    c.ending_before.ensures ∙ by_after s _ (iter_rest c.loop-hunk.hunk-iterator.iter) (iter_rest c.next.new.self.iter) c.in-Some.hunk.now c.in-Some.ensures.steps c.loop-hunk.invariant.2 c.if-hunk.true

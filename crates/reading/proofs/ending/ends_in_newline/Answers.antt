@@ -8,5 +8,5 @@ no_bytes : (l : Line) → length l < 1 → false ≡ ends_in_newline l
 no_bytes [] lt = refl
 no_bytes (b ∷ l) lt = absurd (omega arith)
 
-pub returns-in-default : goal.returns-in-default
-returns-in-default c = search (rules, no_bytes)
+pub returns-in_default : goal.returns-in_default
+returns-in_default c = search (rules, no_bytes)

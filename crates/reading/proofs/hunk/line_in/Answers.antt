@@ -8,4 +8,4 @@ pub returns : goal.returns
 returns g c =
     let s = g.T.ThreeSheets.sheets c.args.three.now in
     let h = c.args.hunk in
-    c.line-at.ensures ∙ (ap (λ (r : Span). get_or (sheet_of s h.side) (r.start + c.args.k) []) c.read-range.ensures ∙ sym (line_at s h c.args.k c.requires))
+    c.line_at.ensures ∙ (ap (λ (r : Span). get_or (sheet_of s h.side) (r.start + c.args.k) []) c.read_range.ensures ∙ sym (line_at s h c.args.k c.requires))

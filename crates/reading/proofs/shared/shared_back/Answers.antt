@@ -16,7 +16,7 @@ run-preserved-then-k-eq0 g c =
     let a = c.args.a.now in
     let b = c.args.b.now in
     let v = c.run in
-    subst (λ z. Back s a b (v.i - 1) z v.j v.m v.n) (sym c.lines-of-k.ensures) (back_skip_left s a b v.i v.k v.j v.m v.n c.requires.ours c.requires.theirs v.invariant (omega arith) c.if-k-eq0.true).0
+    subst (λ z. Back s a b (v.i - 1) z v.j v.m v.n) (sym c.lines_of-k.ensures) (back_skip_left s a b v.i v.k v.j v.m v.n c.requires.ours c.requires.theirs v.invariant (omega arith) c.if-k-eq0.true).0
 
 pub run-smaller-then-k-eq0 : goal.run-smaller-then-k-eq0
 run-smaller-then-k-eq0 g c =
@@ -24,7 +24,7 @@ run-smaller-then-k-eq0 g c =
     let a = c.args.a.now in
     let b = c.args.b.now in
     let v = c.run in
-    subst (λ z. behind_of s a b (v.i - 1) z v.j v.m < behind_of s a b v.i v.k v.j v.m) (sym c.lines-of-k.ensures) (back_skip_left s a b v.i v.k v.j v.m v.n c.requires.ours c.requires.theirs v.invariant (omega arith) c.if-k-eq0.true).1
+    subst (λ z. behind_of s a b (v.i - 1) z v.j v.m < behind_of s a b v.i v.k v.j v.m) (sym c.lines_of-k.ensures) (back_skip_left s a b v.i v.k v.j v.m v.n c.requires.ours c.requires.theirs v.invariant (omega arith) c.if-k-eq0.true).1
 
 pub run-preserved-then-m-eq0 : goal.run-preserved-then-m-eq0
 run-preserved-then-m-eq0 g c =
@@ -32,7 +32,7 @@ run-preserved-then-m-eq0 g c =
     let a = c.args.a.now in
     let b = c.args.b.now in
     let v = c.run in
-    subst (λ z. Back s a b v.i v.k (v.j - 1) z v.n) (sym c.lines-of-m.ensures) (back_skip_right s a b v.i v.k v.j v.m v.n c.requires.ours c.requires.theirs v.invariant (omega arith) c.if-m-eq0.true).0
+    subst (λ z. Back s a b v.i v.k (v.j - 1) z v.n) (sym c.lines_of-m.ensures) (back_skip_right s a b v.i v.k v.j v.m v.n c.requires.ours c.requires.theirs v.invariant (omega arith) c.if-m-eq0.true).0
 
 pub run-smaller-then-m-eq0 : goal.run-smaller-then-m-eq0
 run-smaller-then-m-eq0 g c =
@@ -40,7 +40,7 @@ run-smaller-then-m-eq0 g c =
     let a = c.args.a.now in
     let b = c.args.b.now in
     let v = c.run in
-    subst (λ z. behind_of s a b v.i v.k (v.j - 1) z < behind_of s a b v.i v.k v.j v.m) (sym c.lines-of-m.ensures) (back_skip_right s a b v.i v.k v.j v.m v.n c.requires.ours c.requires.theirs v.invariant (omega arith) c.if-m-eq0.true).1
+    subst (λ z. behind_of s a b v.i v.k (v.j - 1) z < behind_of s a b v.i v.k v.j v.m) (sym c.lines_of-m.ensures) (back_skip_right s a b v.i v.k v.j v.m v.n c.requires.ours c.requires.theirs v.invariant (omega arith) c.if-m-eq0.true).1
 
 pub bounds-a-i-else-m-eq0 : goal.bounds-a-i-else-m-eq0
 bounds-a-i-else-m-eq0 g c =
@@ -66,7 +66,7 @@ run-preserved g c =
     let v = c.run in
     let pk : 0 < v.k = omega arith in
     let pm : 0 < v.m = omega arith in
-    let e = c.if-not-same-line.ensures ∙ ap₂ same_line c.line-in.ensures c.line-in-else-m-eq0.ensures in
+    let e = c.if-not-same_line.ensures ∙ ap₂ same_line c.line_in.ensures c.line_in-else-m-eq0.ensures in
     (back_more s a b v.i v.k v.j v.m v.n c.requires.ours c.requires.theirs v.invariant pk pm (sym e)).0
 
 pub run-smaller : goal.run-smaller
@@ -77,11 +77,11 @@ run-smaller g c =
     let v = c.run in
     let pk : 0 < v.k = omega arith in
     let pm : 0 < v.m = omega arith in
-    let e = c.if-not-same-line.ensures ∙ ap₂ same_line c.line-in.ensures c.line-in-else-m-eq0.ensures in
+    let e = c.if-not-same_line.ensures ∙ ap₂ same_line c.line_in.ensures c.line_in-else-m-eq0.ensures in
     (back_more s a b v.i v.k v.j v.m v.n c.requires.ours c.requires.theirs v.invariant pk pm (sym e)).1
 
-pub overflow-add-n : goal.overflow-add-n
-overflow-add-n g c =
+pub overflow_add-n : goal.overflow_add-n
+overflow_add-n g c =
     let s = g.T.ThreeSheets.sheets c.args.three.now in
     let a = c.args.a.now in
     let b = c.args.b.now in
@@ -106,13 +106,13 @@ returns-then-i-eq0 g c =
     let v = c.run in
     back_end_left s a b v.i v.k v.j v.m v.n c.requires.ours c.requires.theirs v.invariant c.if-i-eq0.true c.if-k-eq0.true
 
-pub returns-then-not-same-line : goal.returns-then-not-same-line
-returns-then-not-same-line g c =
+pub returns-then-not-same_line : goal.returns-then-not-same_line
+returns-then-not-same_line g c =
     let s = g.T.ThreeSheets.sheets c.args.three.now in
     let a = c.args.a.now in
     let b = c.args.b.now in
     let v = c.run in
     let pk : 0 < v.k = omega arith in
     let pm : 0 < v.m = omega arith in
-    let e = c.if-not-same-line.ensures ∙ ap₂ same_line c.line-in.ensures c.line-in-else-m-eq0.ensures in
+    let e = c.if-not-same_line.ensures ∙ ap₂ same_line c.line_in.ensures c.line_in-else-m-eq0.ensures in
     back_stop s a b v.i v.k v.j v.m v.n c.requires.ours c.requires.theirs v.invariant pk pm (sym e)

@@ -6,8 +6,8 @@ use Rattle.writing.specs.States.{State}
 use Rattle.rendering.proofs.Measured.{length_fits, size_bound}
 use Rattle.rendering.proofs.measure.measure.Goals as goal
 
-pub write-merge-requires : goal.write-merge-requires
-write-merge-requires g c =
+pub write_merge-requires : goal.write_merge-requires
+write_merge-requires g c =
     let n = length_fits (g.T.ThreeSheets.sheets c.args.three.now) c.args.current.now c.args.other.now (g.T.ThreeSheets.formed c.args.three.now) c.requires.hunks c.requires.few.0 c.requires.few.1 c.args.mode (labels_in c.args.labels) c.requires.size c.requires.labels in
     let t = c.begin.ensures.taken (omega arith) in
     let a = c.begin.ensures.announced (omega arith) in
@@ -21,11 +21,11 @@ write-merge-requires g c =
 -- what was counted is the rendering's length
 counted : (g : _) (c : goal.After-count g) → c.count.result ≡ total (rendering c.args.mode (g.T.ThreeSheets.sheets c.args.three.now) (labels_in c.args.labels) c.args.current.now c.args.other.now)
 counted g c =
-    let w = ap (λ (x : State ℕ). x.taken) c.write-merge.ensures.written in
+    let w = ap (λ (x : State ℕ). x.taken) c.write_merge.ensures.written in
     omega (arith, w, c.count.ensures.count, c.begin.ensures.taken (omega arith))
 
-pub overflow-cast-result : goal.overflow-cast-result
-overflow-cast-result g c =
+pub overflow_cast-result : goal.overflow_cast-result
+overflow_cast-result g c =
     let n = length_fits (g.T.ThreeSheets.sheets c.args.three.now) c.args.current.now c.args.other.now (g.T.ThreeSheets.formed c.args.three.now) c.requires.hunks c.requires.few.0 c.requires.few.1 c.args.mode (labels_in c.args.labels) c.requires.size c.requires.labels in
     omega (arith, n, counted g c)
 

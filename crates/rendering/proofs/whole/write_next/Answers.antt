@@ -36,21 +36,21 @@ group_marked_is m s x cs os us vs e p q =
     ap₂ (λ (u v : List Hunk). lists_marked m s (is_current x.lead) u v) p q ∙
     sym (ap (λ (b : Bool). cond b (lists_marked m s (is_current x.lead) (side_in x cs) (side_in x os)) false) e)
 
-pub write-hunks-open-requires : goal.write-hunks-open-requires
-write-hunks-open-requires g c =
+pub write_hunks-open-requires : goal.write_hunks-open-requires
+write_hunks-open-requires g c =
     let s = g.T.ThreeSheets.sheets c.args.three.now in
     record {
       readable = c.requires.ours.0;
       room = part_room g.S.Sink.rule (state (g.S.Sink.value c.args.sink.now) (g.S.Sink.taken c.args.sink.now) (g.S.Sink.announced c.args.sink.now) c.args.ajar) _ _ _ _ c.requires.room refl (lone_parts c.args.mode s (labels_in c.args.labels) c.args.since c.args.next c.args.current.now c.args.other.now c.if-next.false);
     }
 
-pub write-hunks-requires : goal.write-hunks-requires
-write-hunks-requires g c =
+pub write_hunks-requires : goal.write_hunks-requires
+write_hunks-requires g c =
     let s = g.T.ThreeSheets.sheets c.args.three.now in
     let e = lone_parts c.args.mode s (labels_in c.args.labels) c.args.since c.args.next c.args.current.now c.args.other.now c.if-next.false in
     record {
       readable = c.requires.theirs.0;
-      room = part_room g.S.Sink.rule _ _ _ _ _ c.requires.room (part_done g.S.Sink.rule (state (g.S.Sink.value c.args.sink.now) (g.S.Sink.taken c.args.sink.now) (g.S.Sink.announced c.args.sink.now) c.args.ajar) _ _ _ _ _ refl e c.write-hunks-open.ensures.written) (all_parts (each common (side_lines s c.args.other.now)));
+      room = part_room g.S.Sink.rule _ _ _ _ _ c.requires.room (part_done g.S.Sink.rule (state (g.S.Sink.value c.args.sink.now) (g.S.Sink.taken c.args.sink.now) (g.S.Sink.announced c.args.sink.now) c.args.ajar) _ _ _ _ _ refl e c.write_hunks-open.ensures.written) (all_parts (each common (side_lines s c.args.other.now)));
     }
 
 pub returns-else-next : goal.returns-else-next
@@ -58,18 +58,18 @@ returns-else-next g c =
     let s = g.T.ThreeSheets.sheets c.args.three.now in
     let e = lone_parts c.args.mode s (labels_in c.args.labels) c.args.since c.args.next c.args.current.now c.args.other.now c.if-next.false in
     record {
-      written = c.write-hunks.ensures.written ∙ part_done g.S.Sink.rule (state (g.S.Sink.value c.args.sink.now) (g.S.Sink.taken c.args.sink.now) (g.S.Sink.announced c.args.sink.now) c.args.ajar) _ _ _ _ _ refl e c.write-hunks-open.ensures.written;
-      kept = keeps_on c.write-hunks-open.ensures.kept c.write-hunks.ensures.kept;
+      written = c.write_hunks.ensures.written ∙ part_done g.S.Sink.rule (state (g.S.Sink.value c.args.sink.now) (g.S.Sink.taken c.args.sink.now) (g.S.Sink.announced c.args.sink.now) c.args.ajar) _ _ _ _ _ refl e c.write_hunks-open.ensures.written;
+      kept = keeps_on c.write_hunks-open.ensures.kept c.write_hunks.ensures.kept;
       marked = sym (ap (λ (b : Bool). cond b (lists_marked c.args.mode s (is_current c.args.next.lead) (side_in c.args.next c.args.current.now) (side_in c.args.next c.args.other.now)) false) c.if-next.false);
     }
 
 pub returns-then-next : goal.returns-then-next
 returns-then-next g c =
     let s = g.T.ThreeSheets.sheets c.args.three.now in
-    let p = c.fill-ancestor.ensures in
-    let q = c.fill-ancestor-then-next.ensures in
+    let p = c.fill_ancestor.ensures in
+    let q = c.fill_ancestor-then-next.ensures in
     record {
-      written = c.write-group.ensures.written ∙ ap (after g.S.Sink.rule _) (group_steps_are c.args.mode s (labels_in c.args.labels) c.args.since c.args.next c.args.current.now c.args.other.now _ _ c.if-next.true p q);
-      kept = c.write-group.ensures.kept;
-      marked = c.write-group.ensures.marked ∙ group_marked_is c.args.mode s c.args.next c.args.current.now c.args.other.now _ _ c.if-next.true p q;
+      written = c.write_group.ensures.written ∙ ap (after g.S.Sink.rule _) (group_steps_are c.args.mode s (labels_in c.args.labels) c.args.since c.args.next c.args.current.now c.args.other.now _ _ c.if-next.true p q);
+      kept = c.write_group.ensures.kept;
+      marked = c.write_group.ensures.marked ∙ group_marked_is c.args.mode s c.args.next c.args.current.now c.args.other.now _ _ c.if-next.true p q;
     }

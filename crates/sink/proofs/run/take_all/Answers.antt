@@ -9,12 +9,12 @@ use Rattle.sink.proofs.run.take_all.Goals as goal
 pub loop-p-init : goal.loop-p-init
 loop-p-init g c = (refl, gone_none g.S.Sink.rule (g.S.Sink.value c.args.sink.now) (g.S.Sink.taken c.args.sink.now) (g.S.Sink.announced c.args.sink.now) (chunks c.args.pieces.now), refl, refl, refl, λ k h. refl, λ h. refl)
 
-pub returns-then-is-err : goal.returns-then-is-err
-returns-then-is-err g c =
+pub returns-then-is_err : goal.returns-then-is_err
+returns-then-is_err g c =
     let e = c.take.ensures in
     let i = c.loop-p.invariant in
     let n = length_chunks c.args.pieces.now in
-    let less = not_took _ _ _ c.take.result e.answer (sym c.if-is-err.ensures.value) in
+    let less = not_took _ _ _ c.take.result e.answer (sym c.if-is_err.ensures.value) in
     let same = e.refused less in
     let t : g.S.Sink.taken c.take.new.self ≡ g.S.Sink.taken c.loop-p.sink = ap g.S.Sink.taken same in
     let stop = gone_stop g.S.Sink.rule _ _ _ _ (g.S.Sink.announced c.loop-p.sink) (chunks c.args.pieces.now) c.loop-p.p-index _ i.1 (omega (arith, n, c.loop-p-test.true)) (sym (chunks_at c.args.pieces.now c.loop-p.p-index _ c.loop-p-test.true)) less in
@@ -34,7 +34,7 @@ loop-p-preserved g c =
     let e = c.take.ensures in
     let i = c.loop-p.invariant in
     let n = length_chunks c.args.pieces.now in
-    let fits = took _ _ _ c.take.result e.answer (sym c.if-is-err.ensures.value) in
+    let fits = took _ _ _ c.take.result e.answer (sym c.if-is_err.ensures.value) in
     let more = gone_more g.S.Sink.rule _ _ (g.S.Sink.value c.take.new.self) _ _ (g.S.Sink.taken c.take.new.self) (g.S.Sink.announced c.loop-p.sink) (chunks c.args.pieces.now) c.loop-p.p-index _ i.1 (omega (arith, n, c.loop-p-test.true)) (sym (chunks_at c.args.pieces.now c.loop-p.p-index _ c.loop-p-test.true)) fits (e.value fits) (e.taken fits) in (
       ap (λ (k : ℕ). k + 1) i.0,
       rw e.announced more,

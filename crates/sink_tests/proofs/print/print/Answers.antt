@@ -9,9 +9,9 @@ use Rattle.sink_tests.proofs.print.print.Goals as goal
 pub returns : goal.returns
 returns c =
     let cs : List Chunk = chunks c.args.pieces.now in
-    let page : Page = c.write-all.new.sink in
+    let page : Page = c.write_all.new.sink in
     let start : Page = c.new-page.result in
-    let e = c.write-all.ensures in
+    let e = c.write_all.ensures in
     let k = e.rest page.taken (omega arith) in
     let n : page.buffer.ghost_name ≡ start.buffer.ghost_name = ap (λ x. x.0) k in
     let d : drop page.taken page.buffer.now ≡ drop page.taken start.buffer.now = ap (λ x. x.1) k in

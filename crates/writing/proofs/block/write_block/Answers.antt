@@ -9,8 +9,8 @@ use Rattle.rules.specs.Blocks.{base_steps}
 use Rattle.writing.proofs.Steps.{Parts, part_done, part_room, keeps_on}
 use Rattle.writing.proofs.block.write_block.Goals as goal
 
-pub write-hunks-a2-requires : goal.write-hunks-a2-requires
-write-hunks-a2-requires g c =
+pub write_hunks-a2-requires : goal.write_hunks-a2-requires
+write_hunks-a2-requires g c =
     let s = g.T.ThreeSheets.sheets c.args.three.now in
     let n = c.args.size in
     let e = c.args.ending in
@@ -25,11 +25,11 @@ write-hunks-a2-requires g c =
     let y2 = x3 ++ y3 in
     let y1 = x2 ++ y2 in
     let rule = g.S.Sink.rule in
-    let e1 = part_done rule _ _ _ (x1 ++ y1) x1 y1 refl (record { is = refl }) c.write-conflict-marker-a1.ensures.written in
+    let e1 = part_done rule _ _ _ (x1 ++ y1) x1 y1 refl (record { is = refl }) c.write_conflict_marker-a1.ensures.written in
     record { readable = c.requires.ours; room = part_room rule _ _ y1 x2 y2 c.requires.room e1 (record { is = refl }) }
 
-pub write-base-a3-requires : goal.write-base-a3-requires
-write-base-a3-requires g c =
+pub write_base-a3-requires : goal.write_base-a3-requires
+write_base-a3-requires g c =
     let s = g.T.ThreeSheets.sheets c.args.three.now in
     let n = c.args.size in
     let e = c.args.ending in
@@ -44,12 +44,12 @@ write-base-a3-requires g c =
     let y2 = x3 ++ y3 in
     let y1 = x2 ++ y2 in
     let rule = g.S.Sink.rule in
-    let e1 = part_done rule _ _ _ (x1 ++ y1) x1 y1 refl (record { is = refl }) c.write-conflict-marker-a1.ensures.written in
-    let e2 = part_done rule _ _ _ y1 x2 y2 e1 (record { is = refl }) c.write-hunks-a2.ensures.written in
+    let e1 = part_done rule _ _ _ (x1 ++ y1) x1 y1 refl (record { is = refl }) c.write_conflict_marker-a1.ensures.written in
+    let e2 = part_done rule _ _ _ y1 x2 y2 e1 (record { is = refl }) c.write_hunks-a2.ensures.written in
     record { within = c.requires.within; size = c.requires.size; room = part_room rule _ _ y2 x3 y3 c.requires.room e2 (record { is = refl }) }
 
-pub write-conflict-marker-a4-requires : goal.write-conflict-marker-a4-requires
-write-conflict-marker-a4-requires g c =
+pub write_conflict_marker-a4-requires : goal.write_conflict_marker-a4-requires
+write_conflict_marker-a4-requires g c =
     let s = g.T.ThreeSheets.sheets c.args.three.now in
     let n = c.args.size in
     let e = c.args.ending in
@@ -64,15 +64,15 @@ write-conflict-marker-a4-requires g c =
     let y2 = x3 ++ y3 in
     let y1 = x2 ++ y2 in
     let rule = g.S.Sink.rule in
-    let e1 = part_done rule _ _ _ (x1 ++ y1) x1 y1 refl (record { is = refl }) c.write-conflict-marker-a1.ensures.written in
-    let e2 = part_done rule _ _ _ y1 x2 y2 e1 (record { is = refl }) c.write-hunks-a2.ensures.written in
-    let e3 = part_done rule _ _ _ y2 x3 y3 e2 (record { is = refl }) c.write-base-a3.ensures.written in
-    let m4 = marker_steps 61 n (option_map (λ x. x.now) c.no-label.result) e in
-    let p4 : Parts y3 m4 y4 = record { is = ap (λ o. marker_steps 61 n o e ++ y4) (sym c.no-label.ensures) } in
+    let e1 = part_done rule _ _ _ (x1 ++ y1) x1 y1 refl (record { is = refl }) c.write_conflict_marker-a1.ensures.written in
+    let e2 = part_done rule _ _ _ y1 x2 y2 e1 (record { is = refl }) c.write_hunks-a2.ensures.written in
+    let e3 = part_done rule _ _ _ y2 x3 y3 e2 (record { is = refl }) c.write_base-a3.ensures.written in
+    let m4 = marker_steps 61 n (option_map (λ x. x.now) c.no_label.result) e in
+    let p4 : Parts y3 m4 y4 = record { is = ap (λ o. marker_steps 61 n o e ++ y4) (sym c.no_label.ensures) } in
     record { size = c.requires.size; room = part_room rule _ _ y3 m4 y4 c.requires.room e3 p4 }
 
-pub write-hunks-a5-requires : goal.write-hunks-a5-requires
-write-hunks-a5-requires g c =
+pub write_hunks-a5-requires : goal.write_hunks-a5-requires
+write_hunks-a5-requires g c =
     let s = g.T.ThreeSheets.sheets c.args.three.now in
     let n = c.args.size in
     let e = c.args.ending in
@@ -87,16 +87,16 @@ write-hunks-a5-requires g c =
     let y2 = x3 ++ y3 in
     let y1 = x2 ++ y2 in
     let rule = g.S.Sink.rule in
-    let e1 = part_done rule _ _ _ (x1 ++ y1) x1 y1 refl (record { is = refl }) c.write-conflict-marker-a1.ensures.written in
-    let e2 = part_done rule _ _ _ y1 x2 y2 e1 (record { is = refl }) c.write-hunks-a2.ensures.written in
-    let e3 = part_done rule _ _ _ y2 x3 y3 e2 (record { is = refl }) c.write-base-a3.ensures.written in
-    let m4 = marker_steps 61 n (option_map (λ x. x.now) c.no-label.result) e in
-    let p4 : Parts y3 m4 y4 = record { is = ap (λ o. marker_steps 61 n o e ++ y4) (sym c.no-label.ensures) } in
-    let e4 = part_done rule _ _ _ y3 m4 y4 e3 p4 c.write-conflict-marker-a4.ensures.written in
+    let e1 = part_done rule _ _ _ (x1 ++ y1) x1 y1 refl (record { is = refl }) c.write_conflict_marker-a1.ensures.written in
+    let e2 = part_done rule _ _ _ y1 x2 y2 e1 (record { is = refl }) c.write_hunks-a2.ensures.written in
+    let e3 = part_done rule _ _ _ y2 x3 y3 e2 (record { is = refl }) c.write_base-a3.ensures.written in
+    let m4 = marker_steps 61 n (option_map (λ x. x.now) c.no_label.result) e in
+    let p4 : Parts y3 m4 y4 = record { is = ap (λ o. marker_steps 61 n o e ++ y4) (sym c.no_label.ensures) } in
+    let e4 = part_done rule _ _ _ y3 m4 y4 e3 p4 c.write_conflict_marker-a4.ensures.written in
     record { readable = c.requires.theirs; room = part_room rule _ _ y4 x5 x6 c.requires.room e4 (record { is = refl }) }
 
-pub write-conflict-marker-requires : goal.write-conflict-marker-requires
-write-conflict-marker-requires g c =
+pub write_conflict_marker-requires : goal.write_conflict_marker-requires
+write_conflict_marker-requires g c =
     let s = g.T.ThreeSheets.sheets c.args.three.now in
     let n = c.args.size in
     let e = c.args.ending in
@@ -111,13 +111,13 @@ write-conflict-marker-requires g c =
     let y2 = x3 ++ y3 in
     let y1 = x2 ++ y2 in
     let rule = g.S.Sink.rule in
-    let e1 = part_done rule _ _ _ (x1 ++ y1) x1 y1 refl (record { is = refl }) c.write-conflict-marker-a1.ensures.written in
-    let e2 = part_done rule _ _ _ y1 x2 y2 e1 (record { is = refl }) c.write-hunks-a2.ensures.written in
-    let e3 = part_done rule _ _ _ y2 x3 y3 e2 (record { is = refl }) c.write-base-a3.ensures.written in
-    let m4 = marker_steps 61 n (option_map (λ x. x.now) c.no-label.result) e in
-    let p4 : Parts y3 m4 y4 = record { is = ap (λ o. marker_steps 61 n o e ++ y4) (sym c.no-label.ensures) } in
-    let e4 = part_done rule _ _ _ y3 m4 y4 e3 p4 c.write-conflict-marker-a4.ensures.written in
-    let e5 = part_done rule _ _ _ y4 x5 x6 e4 (record { is = refl }) c.write-hunks-a5.ensures.written in
+    let e1 = part_done rule _ _ _ (x1 ++ y1) x1 y1 refl (record { is = refl }) c.write_conflict_marker-a1.ensures.written in
+    let e2 = part_done rule _ _ _ y1 x2 y2 e1 (record { is = refl }) c.write_hunks-a2.ensures.written in
+    let e3 = part_done rule _ _ _ y2 x3 y3 e2 (record { is = refl }) c.write_base-a3.ensures.written in
+    let m4 = marker_steps 61 n (option_map (λ x. x.now) c.no_label.result) e in
+    let p4 : Parts y3 m4 y4 = record { is = ap (λ o. marker_steps 61 n o e ++ y4) (sym c.no_label.ensures) } in
+    let e4 = part_done rule _ _ _ y3 m4 y4 e3 p4 c.write_conflict_marker-a4.ensures.written in
+    let e5 = part_done rule _ _ _ y4 x5 x6 e4 (record { is = refl }) c.write_hunks-a5.ensures.written in
     record { size = c.requires.size; room = part_room rule _ _ x6 x6 [] c.requires.room e5 (record { is = sym (append-nil x6) }) }
 
 pub returns : goal.returns
@@ -136,11 +136,11 @@ returns g c =
     let y2 = x3 ++ y3 in
     let y1 = x2 ++ y2 in
     let rule = g.S.Sink.rule in
-    let e1 = part_done rule _ _ _ (x1 ++ y1) x1 y1 refl (record { is = refl }) c.write-conflict-marker-a1.ensures.written in
-    let e2 = part_done rule _ _ _ y1 x2 y2 e1 (record { is = refl }) c.write-hunks-a2.ensures.written in
-    let e3 = part_done rule _ _ _ y2 x3 y3 e2 (record { is = refl }) c.write-base-a3.ensures.written in
-    let m4 = marker_steps 61 n (option_map (λ x. x.now) c.no-label.result) e in
-    let p4 : Parts y3 m4 y4 = record { is = ap (λ o. marker_steps 61 n o e ++ y4) (sym c.no-label.ensures) } in
-    let e4 = part_done rule _ _ _ y3 m4 y4 e3 p4 c.write-conflict-marker-a4.ensures.written in
-    let e5 = part_done rule _ _ _ y4 x5 x6 e4 (record { is = refl }) c.write-hunks-a5.ensures.written in
-    record { written = c.write-conflict-marker.ensures.written ∙ e5; kept = keeps_on (keeps_on (keeps_on (keeps_on (keeps_on c.write-conflict-marker-a1.ensures.kept c.write-hunks-a2.ensures.kept) c.write-base-a3.ensures.kept) c.write-conflict-marker-a4.ensures.kept) c.write-hunks-a5.ensures.kept) c.write-conflict-marker.ensures.kept }
+    let e1 = part_done rule _ _ _ (x1 ++ y1) x1 y1 refl (record { is = refl }) c.write_conflict_marker-a1.ensures.written in
+    let e2 = part_done rule _ _ _ y1 x2 y2 e1 (record { is = refl }) c.write_hunks-a2.ensures.written in
+    let e3 = part_done rule _ _ _ y2 x3 y3 e2 (record { is = refl }) c.write_base-a3.ensures.written in
+    let m4 = marker_steps 61 n (option_map (λ x. x.now) c.no_label.result) e in
+    let p4 : Parts y3 m4 y4 = record { is = ap (λ o. marker_steps 61 n o e ++ y4) (sym c.no_label.ensures) } in
+    let e4 = part_done rule _ _ _ y3 m4 y4 e3 p4 c.write_conflict_marker-a4.ensures.written in
+    let e5 = part_done rule _ _ _ y4 x5 x6 e4 (record { is = refl }) c.write_hunks-a5.ensures.written in
+    record { written = c.write_conflict_marker.ensures.written ∙ e5; kept = keeps_on (keeps_on (keeps_on (keeps_on (keeps_on c.write_conflict_marker-a1.ensures.kept c.write_hunks-a2.ensures.kept) c.write_base-a3.ensures.kept) c.write_conflict_marker-a4.ensures.kept) c.write_hunks-a5.ensures.kept) c.write_conflict_marker.ensures.kept }

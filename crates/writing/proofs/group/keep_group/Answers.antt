@@ -14,24 +14,24 @@ use Rattle.writing.specs.Sides.{lists_in}
 use Rattle.writing.proofs.Grouping.{lists_readable, split_room, split_front, split_back, same_sides, held_few}
 use Rattle.writing.proofs.group.keep_group.Goals as goal
 
-pub split-at-requires : goal.split-at-requires
-split-at-requires g c =
+pub split_at-requires : goal.split_at-requires
+split_at-requires g c =
     let s = g.T.ThreeSheets.sheets c.args.three.now in
     let d = lists_in c.args.style s (is_current c.args.lead) (held c.args.ours.now) (held c.args.theirs.now) in
-    let f = c.take-sides-in-front in
-    let all : c.as-slice-all.result.now ≡ d.front ++ d.back = c.as-slice-all.ensures ∙ f.ensures.removed in
+    let f = c.take_sides-in_front in
+    let all : c.as_slice-all.result.now ≡ d.front ++ d.back = c.as_slice-all.ensures ∙ f.ensures.removed in
     split_room _ d.front d.back _ all f.ensures.count
 
-pub write-keep-requires : goal.write-keep-requires
-write-keep-requires g c =
+pub write_keep-requires : goal.write_keep-requires
+write_keep-requires g c =
     let s = g.T.ThreeSheets.sheets c.args.three.now in
     let d = lists_in c.args.style s (is_current c.args.lead) (held c.args.ours.now) (held c.args.theirs.now) in
-    let f = c.take-sides-in-front in
-    let all : c.as-slice-all.result.now ≡ d.front ++ d.back = c.as-slice-all.ensures ∙ f.ensures.removed in
-    let ef = c.split-at.ensures.front ∙ split_front _ d.front d.back _ all f.ensures.count in
-    let eb = c.split-at.ensures.back ∙ split_back _ d.front d.back _ all f.ensures.count in
-    let el = c.as-slice-left.ensures ∙ f.ensures.left in
-    let er = c.as-slice-right.ensures ∙ f.ensures.right in
+    let f = c.take_sides-in_front in
+    let all : c.as_slice-all.result.now ≡ d.front ++ d.back = c.as_slice-all.ensures ∙ f.ensures.removed in
+    let ef = c.split_at.ensures.front ∙ split_front _ d.front d.back _ all f.ensures.count in
+    let eb = c.split_at.ensures.back ∙ split_back _ d.front d.back _ all f.ensures.count in
+    let el = c.as_slice-left.ensures ∙ f.ensures.left in
+    let er = c.as_slice-right.ensures ∙ f.ensures.right in
     let k : Sides → List Step = keep_steps c.args.style s c.args.size (labels_in c.args.labels) c.args.since c.args.range.start c.args.range.end in
     let e = ap k (same_sides _ _ _ _ _ _ _ _ ef el er eb) in
     let q = lists_readable c.args.style s (is_current c.args.lead) _ _ c.requires.ours c.requires.theirs in
@@ -39,7 +39,7 @@ write-keep-requires g c =
     record {
       within = c.requires.within;
       size = c.requires.size;
-      few = (subst (λ (z : List Hunk). length z ≤ max_filled) (sym c.as-slice-left.ensures) (held_few f.new.ours), subst (λ (z : List Hunk). length z ≤ max_filled) (sym c.as-slice-right.ensures) (held_few f.new.theirs));
+      few = (subst (λ (z : List Hunk). length z ≤ max_filled) (sym c.as_slice-left.ensures) (held_few f.new.ours), subst (λ (z : List Hunk). length z ≤ max_filled) (sym c.as_slice-right.ensures) (held_few f.new.theirs));
       ahead = subst (All (Readable s)) (sym ef) q.front;
       ours = subst (All (Readable s)) (sym el) q.left;
       theirs = subst (All (Readable s)) (sym er) q.right;
@@ -51,16 +51,16 @@ pub returns : goal.returns
 returns g c =
     let s = g.T.ThreeSheets.sheets c.args.three.now in
     let d = lists_in c.args.style s (is_current c.args.lead) (held c.args.ours.now) (held c.args.theirs.now) in
-    let f = c.take-sides-in-front in
-    let all : c.as-slice-all.result.now ≡ d.front ++ d.back = c.as-slice-all.ensures ∙ f.ensures.removed in
-    let ef = c.split-at.ensures.front ∙ split_front _ d.front d.back _ all f.ensures.count in
-    let eb = c.split-at.ensures.back ∙ split_back _ d.front d.back _ all f.ensures.count in
-    let el = c.as-slice-left.ensures ∙ f.ensures.left in
-    let er = c.as-slice-right.ensures ∙ f.ensures.right in
+    let f = c.take_sides-in_front in
+    let all : c.as_slice-all.result.now ≡ d.front ++ d.back = c.as_slice-all.ensures ∙ f.ensures.removed in
+    let ef = c.split_at.ensures.front ∙ split_front _ d.front d.back _ all f.ensures.count in
+    let eb = c.split_at.ensures.back ∙ split_back _ d.front d.back _ all f.ensures.count in
+    let el = c.as_slice-left.ensures ∙ f.ensures.left in
+    let er = c.as_slice-right.ensures ∙ f.ensures.right in
     let k : Sides → List Step = keep_steps c.args.style s c.args.size (labels_in c.args.labels) c.args.since c.args.range.start c.args.range.end in
     let e = ap k (same_sides _ _ _ _ _ _ _ _ ef el er eb) in
     record {
-      written = c.write-keep.ensures.written ∙ ap (after g.S.Sink.rule _) e;
-      kept = c.write-keep.ensures.kept;
-      block = c.write-keep.ensures.block ∙ ap₂ (blocked c.args.style s) el er;
+      written = c.write_keep.ensures.written ∙ ap (after g.S.Sink.rule _) e;
+      kept = c.write_keep.ensures.kept;
+      block = c.write_keep.ensures.block ∙ ap₂ (blocked c.args.style s) el er;
     }

@@ -7,11 +7,11 @@ use Rattle.writing.specs.Sides.{lists_differ}
 use Rattle.writing.proofs.Grouping.{held_few}
 use Rattle.writing.proofs.group.sides_differ.Goals as goal
 
-pub hunks-differ-requires : goal.hunks-differ-requires
-hunks-differ-requires g c =
+pub hunks_differ-requires : goal.hunks_differ-requires
+hunks_differ-requires g c =
     let s = g.T.ThreeSheets.sheets c.args.three.now in
-    let el = c.as-slice-left.ensures in
-    let er = c.as-slice-right.ensures in
+    let el = c.as_slice-left.ensures in
+    let er = c.as_slice-right.ensures in
     record {
       few = (subst (λ (z : List Hunk). length z ≤ max_filled) (sym el) (held_few c.args.ours.now), subst (λ (z : List Hunk). length z ≤ max_filled) (sym er) (held_few c.args.theirs.now));
       ours = subst (All (Readable s)) (sym el) c.requires.ours;
@@ -21,4 +21,4 @@ hunks-differ-requires g c =
 pub returns : goal.returns
 returns g c =
     let s = g.T.ThreeSheets.sheets c.args.three.now in
-    c.hunks-differ.ensures ∙ ap₂ (lists_differ s) c.as-slice-left.ensures c.as-slice-right.ensures
+    c.hunks_differ.ensures ∙ ap₂ (lists_differ s) c.as_slice-left.ensures c.as_slice-right.ensures

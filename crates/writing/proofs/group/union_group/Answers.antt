@@ -13,41 +13,41 @@ use Rattle.writing.specs.Sides.{contracted_lists, lists_differ}
 use Rattle.writing.proofs.Grouping.{contracted_readable, split_room, split_front, split_back, same_sides, held_few}
 use Rattle.writing.proofs.group.union_group.Goals as goal
 
-pub split-at-requires : goal.split-at-requires
-split-at-requires g c =
+pub split_at-requires : goal.split_at-requires
+split_at-requires g c =
     let s = g.T.ThreeSheets.sheets c.args.three.now in
     let d = contracted_lists s (is_current c.args.lead) (held c.args.ours.now) (held c.args.theirs.now) in
-    let f = c.contract-sides-in-front in
-    let all : c.as-slice-all.result.now ≡ d.front ++ d.back = c.as-slice-all.ensures ∙ f.ensures.removed in
+    let f = c.contract_sides-in_front in
+    let all : c.as_slice-all.result.now ≡ d.front ++ d.back = c.as_slice-all.ensures ∙ f.ensures.removed in
     split_room _ d.front d.back _ all f.ensures.count
 
-pub hunks-differ-differ-requires : goal.hunks-differ-differ-requires
-hunks-differ-differ-requires g c =
+pub hunks_differ-differ-requires : goal.hunks_differ-differ-requires
+hunks_differ-differ-requires g c =
     let s = g.T.ThreeSheets.sheets c.args.three.now in
     let d = contracted_lists s (is_current c.args.lead) (held c.args.ours.now) (held c.args.theirs.now) in
-    let f = c.contract-sides-in-front in
-    let all : c.as-slice-all.result.now ≡ d.front ++ d.back = c.as-slice-all.ensures ∙ f.ensures.removed in
-    let ef = c.split-at.ensures.front ∙ split_front _ d.front d.back _ all f.ensures.count in
-    let eb = c.split-at.ensures.back ∙ split_back _ d.front d.back _ all f.ensures.count in
-    let el = c.as-slice-left.ensures ∙ f.ensures.left in
-    let er = c.as-slice-right.ensures ∙ f.ensures.right in
+    let f = c.contract_sides-in_front in
+    let all : c.as_slice-all.result.now ≡ d.front ++ d.back = c.as_slice-all.ensures ∙ f.ensures.removed in
+    let ef = c.split_at.ensures.front ∙ split_front _ d.front d.back _ all f.ensures.count in
+    let eb = c.split_at.ensures.back ∙ split_back _ d.front d.back _ all f.ensures.count in
+    let el = c.as_slice-left.ensures ∙ f.ensures.left in
+    let er = c.as_slice-right.ensures ∙ f.ensures.right in
     let q = contracted_readable s (is_current c.args.lead) _ _ c.requires.ours c.requires.theirs in
     record {
-      few = (subst (λ (z : List Hunk). length z ≤ max_filled) (sym c.as-slice-left.ensures) (held_few f.new.ours), subst (λ (z : List Hunk). length z ≤ max_filled) (sym c.as-slice-right.ensures) (held_few f.new.theirs));
+      few = (subst (λ (z : List Hunk). length z ≤ max_filled) (sym c.as_slice-left.ensures) (held_few f.new.ours), subst (λ (z : List Hunk). length z ≤ max_filled) (sym c.as_slice-right.ensures) (held_few f.new.theirs));
       ours = subst (All (Readable s)) (sym el) q.left;
       theirs = subst (All (Readable s)) (sym er) q.right;
     }
 
-pub write-union-open-requires : goal.write-union-open-requires
-write-union-open-requires g c =
+pub write_union-open-requires : goal.write_union-open-requires
+write_union-open-requires g c =
     let s = g.T.ThreeSheets.sheets c.args.three.now in
     let d = contracted_lists s (is_current c.args.lead) (held c.args.ours.now) (held c.args.theirs.now) in
-    let f = c.contract-sides-in-front in
-    let all : c.as-slice-all.result.now ≡ d.front ++ d.back = c.as-slice-all.ensures ∙ f.ensures.removed in
-    let ef = c.split-at.ensures.front ∙ split_front _ d.front d.back _ all f.ensures.count in
-    let eb = c.split-at.ensures.back ∙ split_back _ d.front d.back _ all f.ensures.count in
-    let el = c.as-slice-left.ensures ∙ f.ensures.left in
-    let er = c.as-slice-right.ensures ∙ f.ensures.right in
+    let f = c.contract_sides-in_front in
+    let all : c.as_slice-all.result.now ≡ d.front ++ d.back = c.as_slice-all.ensures ∙ f.ensures.removed in
+    let ef = c.split_at.ensures.front ∙ split_front _ d.front d.back _ all f.ensures.count in
+    let eb = c.split_at.ensures.back ∙ split_back _ d.front d.back _ all f.ensures.count in
+    let el = c.as_slice-left.ensures ∙ f.ensures.left in
+    let er = c.as_slice-right.ensures ∙ f.ensures.right in
     let k : Sides → List Step = union_steps s in
     let e = ap k (same_sides _ _ _ _ _ _ _ _ ef el er eb) in
     let q = contracted_readable s (is_current c.args.lead) _ _ c.requires.ours c.requires.theirs in
@@ -64,16 +64,16 @@ pub returns : goal.returns
 returns g c =
     let s = g.T.ThreeSheets.sheets c.args.three.now in
     let d = contracted_lists s (is_current c.args.lead) (held c.args.ours.now) (held c.args.theirs.now) in
-    let f = c.contract-sides-in-front in
-    let all : c.as-slice-all.result.now ≡ d.front ++ d.back = c.as-slice-all.ensures ∙ f.ensures.removed in
-    let ef = c.split-at.ensures.front ∙ split_front _ d.front d.back _ all f.ensures.count in
-    let eb = c.split-at.ensures.back ∙ split_back _ d.front d.back _ all f.ensures.count in
-    let el = c.as-slice-left.ensures ∙ f.ensures.left in
-    let er = c.as-slice-right.ensures ∙ f.ensures.right in
+    let f = c.contract_sides-in_front in
+    let all : c.as_slice-all.result.now ≡ d.front ++ d.back = c.as_slice-all.ensures ∙ f.ensures.removed in
+    let ef = c.split_at.ensures.front ∙ split_front _ d.front d.back _ all f.ensures.count in
+    let eb = c.split_at.ensures.back ∙ split_back _ d.front d.back _ all f.ensures.count in
+    let el = c.as_slice-left.ensures ∙ f.ensures.left in
+    let er = c.as_slice-right.ensures ∙ f.ensures.right in
     let k : Sides → List Step = union_steps s in
     let e = ap k (same_sides _ _ _ _ _ _ _ _ ef el er eb) in
     record {
-      written = c.write-union-open.ensures.written ∙ ap (after g.S.Sink.rule _) e;
-      kept = c.write-union-open.ensures.kept;
-      marked = c.hunks-differ-differ.ensures ∙ ap₂ (lists_differ s) el er;
+      written = c.write_union-open.ensures.written ∙ ap (after g.S.Sink.rule _) e;
+      kept = c.write_union-open.ensures.kept;
+      marked = c.hunks_differ-differ.ensures ∙ ap₂ (lists_differ s) el er;
     }

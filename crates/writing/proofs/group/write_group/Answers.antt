@@ -15,7 +15,7 @@ returns-in-Keep g c =
     let r = held c.args.theirs.now in
     let e = sym c.in-Keep.is in
     record {
-      written = c.keep-group.ensures.written ∙ ap (after g.S.Sink.rule _) (ap (λ (m : modes.Conflict). lists_steps m s (labels_in c.args.labels) c.args.since c.args.range.start c.args.range.end b l r) e);
-      kept = c.keep-group.ensures.kept;
-      marked = c.keep-group.ensures.block ∙ ap (λ (m : modes.Conflict). lists_marked m s b l r) e;
+      written = c.keep_group.ensures.written ∙ ap (after g.S.Sink.rule _) (ap (λ (m : modes.Conflict). lists_steps m s (labels_in c.args.labels) c.args.since c.args.range.start c.args.range.end b l r) e);
+      kept = c.keep_group.ensures.kept;
+      marked = c.keep_group.ensures.block ∙ ap (λ (m : modes.Conflict). lists_marked m s b l r) e;
     }

@@ -14,15 +14,15 @@ use Rattle.writing.proofs.lines.write_hunks.Goals as goal
 pub loop-hunk-init : goal.loop-hunk-init
 loop-hunk-init g c = (refl, keeps_none _ _ _ _)
 
-pub write-lines-still-requires : goal.write-lines-still-requires
-write-lines-still-requires g c =
+pub write_lines-still-requires : goal.write_lines-still-requires
+write_lines-still-requires g c =
     let s = g.T.ThreeSheets.sheets c.args.three.now in
     let hs = c.args.hunks.now in
     let i = c.loop-hunk.hunk-index in
-    let e = hunk_step (kind_of c.args.kind) s hs i c.read-range.result c.loop-hunk-test.true c.read-range.ensures in
+    let e = hunk_step (kind_of c.args.kind) s hs i c.read_range.result c.loop-hunk-test.true c.read_range.ensures in
     let r = All-get_or (Readable s) hs i no_hunk c.loop-hunk-test.true c.requires.readable in
     record {
-      within = subst (λ (x : Span). x.end ≤ length (sheet_of s (get_or hs i no_hunk).side)) (sym c.read-range.ensures) r;
+      within = subst (λ (x : Span). x.end ≤ length (sheet_of s (get_or hs i no_hunk).side)) (sym c.read_range.ensures) r;
       room = part_room g.S.Sink.rule _ _ _ _ _ c.requires.room c.loop-hunk.invariant.0 e;
     }
 
@@ -31,8 +31,8 @@ loop-hunk-preserved g c =
     let s = g.T.ThreeSheets.sheets c.args.three.now in
     let hs = c.args.hunks.now in
     let i = c.loop-hunk.hunk-index in
-    let e = hunk_step (kind_of c.args.kind) s hs i c.read-range.result c.loop-hunk-test.true c.read-range.ensures in
-    (part_done g.S.Sink.rule _ _ _ _ _ _ c.loop-hunk.invariant.0 e c.write-lines-still.ensures.written, keeps_on c.loop-hunk.invariant.1 c.write-lines-still.ensures.kept)
+    let e = hunk_step (kind_of c.args.kind) s hs i c.read_range.result c.loop-hunk-test.true c.read_range.ensures in
+    (part_done g.S.Sink.rule _ _ _ _ _ _ c.loop-hunk.invariant.0 e c.write_lines-still.ensures.written, keeps_on c.loop-hunk.invariant.1 c.write_lines-still.ensures.kept)
 
 pub returns : goal.returns
 returns g c =

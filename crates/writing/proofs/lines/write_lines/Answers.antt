@@ -8,19 +8,19 @@ use Rattle.writing.proofs.lines.write_lines.Goals as goal
 pub loop-n-init : goal.loop-n-init
 loop-n-init g c = (refl, keeps_none _ _ _ _)
 
-pub write-piece-still-requires : goal.write-piece-still-requires
-write-piece-still-requires g c =
+pub write_piece-still-requires : goal.write_piece-still-requires
+write_piece-still-requires g c =
     let ls = sheet_of (g.T.ThreeSheets.sheets c.args.three.now) c.args.side in
     let e = line_step (kind_of c.args.kind) ls c.loop-n.n c.args.range.end (chunk c.new.result) c.loop-n-test.true c.requires.within
-    (c.new.ensures ∙ ap (chunk_of c.args.kind) c.line-at.ensures) in
+    (c.new.ensures ∙ ap (chunk_of c.args.kind) c.line_at.ensures) in
     record { room = part_room g.S.Sink.rule _ _ _ _ _ c.requires.room c.loop-n.invariant.0 e }
 
 pub loop-n-preserved : goal.loop-n-preserved
 loop-n-preserved g c =
     let ls = sheet_of (g.T.ThreeSheets.sheets c.args.three.now) c.args.side in
     let e = line_step (kind_of c.args.kind) ls c.loop-n.n c.args.range.end (chunk c.new.result) c.loop-n-test.true c.requires.within
-    (c.new.ensures ∙ ap (chunk_of c.args.kind) c.line-at.ensures) in
-    (part_done g.S.Sink.rule _ _ _ _ _ _ c.loop-n.invariant.0 e c.write-piece-still.ensures.written, keeps_on c.loop-n.invariant.1 c.write-piece-still.ensures.kept)
+    (c.new.ensures ∙ ap (chunk_of c.args.kind) c.line_at.ensures) in
+    (part_done g.S.Sink.rule _ _ _ _ _ _ c.loop-n.invariant.0 e c.write_piece-still.ensures.written, keeps_on c.loop-n.invariant.1 c.write_piece-still.ensures.kept)
 
 pub returns : goal.returns
 returns g c =

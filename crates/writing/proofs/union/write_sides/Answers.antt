@@ -13,8 +13,8 @@ use Rattle.writing.proofs.union.write_sides.Goals as goal
 closed : (e e' : Ending) (ys : List Step) → e' ≡ e → Parts (close e ∷ ys) (close e' ∷ []) ys
 closed e e' ys q = record { is = ap (λ (v : Ending). close v ∷ ys) (sym q) }
 
-pub assure-ends-with-nl-a1-requires : goal.assure-ends-with-nl-a1-requires
-assure-ends-with-nl-a1-requires g c =
+pub assure_ends_with_nl-a1-requires : goal.assure_ends_with_nl-a1-requires
+assure_ends_with_nl-a1-requires g c =
     let s = g.T.ThreeSheets.sheets c.args.three.now in
     let e1 = or_newline (ending_of s c.args.front.now) in
     let x2 = each ours (side_lines s c.args.left.now) in
@@ -23,13 +23,13 @@ assure-ends-with-nl-a1-requires g c =
     let y2 = close e3 ∷ x4 in
     let y1 = x2 ++ y2 in
     let rule = g.S.Sink.rule in
-    let r1 = c.shown-ending-ahead.result in
-    let p1 = closed e1 r1 y1 c.shown-ending-ahead.ensures in
+    let r1 = c.shown-ending_ahead.result in
+    let p1 = closed e1 r1 y1 c.shown-ending_ahead.ensures in
     let v = c.args.sink.now in
     record { room = part_room rule (state (g.S.Sink.value v) (g.S.Sink.taken v) (g.S.Sink.announced v) c.args.ajar) _ (close e1 ∷ y1) (close r1 ∷ []) y1 c.requires.room refl p1 }
 
-pub write-hunks-a2-requires : goal.write-hunks-a2-requires
-write-hunks-a2-requires g c =
+pub write_hunks-a2-requires : goal.write_hunks-a2-requires
+write_hunks-a2-requires g c =
     let s = g.T.ThreeSheets.sheets c.args.three.now in
     let e1 = or_newline (ending_of s c.args.front.now) in
     let x2 = each ours (side_lines s c.args.left.now) in
@@ -38,13 +38,13 @@ write-hunks-a2-requires g c =
     let y2 = close e3 ∷ x4 in
     let y1 = x2 ++ y2 in
     let rule = g.S.Sink.rule in
-    let r1 = c.shown-ending-ahead.result in
-    let p1 = closed e1 r1 y1 c.shown-ending-ahead.ensures in
-    let d1 = part_done rule _ _ _ (close e1 ∷ y1) (close r1 ∷ []) y1 refl p1 c.assure-ends-with-nl-a1.ensures.written in
+    let r1 = c.shown-ending_ahead.result in
+    let p1 = closed e1 r1 y1 c.shown-ending_ahead.ensures in
+    let d1 = part_done rule _ _ _ (close e1 ∷ y1) (close r1 ∷ []) y1 refl p1 c.assure_ends_with_nl-a1.ensures.written in
     record { readable = c.requires.ours; room = part_room rule _ _ y1 x2 y2 c.requires.room d1 (record { is = refl }) }
 
-pub assure-ends-with-nl-a3-requires : goal.assure-ends-with-nl-a3-requires
-assure-ends-with-nl-a3-requires g c =
+pub assure_ends_with_nl-a3-requires : goal.assure_ends_with_nl-a3-requires
+assure_ends_with_nl-a3-requires g c =
     let s = g.T.ThreeSheets.sheets c.args.three.now in
     let e1 = or_newline (ending_of s c.args.front.now) in
     let x2 = each ours (side_lines s c.args.left.now) in
@@ -53,16 +53,16 @@ assure-ends-with-nl-a3-requires g c =
     let y2 = close e3 ∷ x4 in
     let y1 = x2 ++ y2 in
     let rule = g.S.Sink.rule in
-    let r1 = c.shown-ending-ahead.result in
-    let p1 = closed e1 r1 y1 c.shown-ending-ahead.ensures in
-    let d1 = part_done rule _ _ _ (close e1 ∷ y1) (close r1 ∷ []) y1 refl p1 c.assure-ends-with-nl-a1.ensures.written in
-    let d2 = part_done rule _ _ _ y1 x2 y2 d1 (record { is = refl }) c.write-hunks-a2.ensures.written in
-    let r3 = c.shown-ending-between.result in
-    let p3 = closed e3 r3 x4 c.shown-ending-between.ensures in
+    let r1 = c.shown-ending_ahead.result in
+    let p1 = closed e1 r1 y1 c.shown-ending_ahead.ensures in
+    let d1 = part_done rule _ _ _ (close e1 ∷ y1) (close r1 ∷ []) y1 refl p1 c.assure_ends_with_nl-a1.ensures.written in
+    let d2 = part_done rule _ _ _ y1 x2 y2 d1 (record { is = refl }) c.write_hunks-a2.ensures.written in
+    let r3 = c.shown_ending-between.result in
+    let p3 = closed e3 r3 x4 c.shown_ending-between.ensures in
     record { room = part_room rule _ _ y2 (close r3 ∷ []) x4 c.requires.room d2 p3 }
 
-pub write-hunks-requires : goal.write-hunks-requires
-write-hunks-requires g c =
+pub write_hunks-requires : goal.write_hunks-requires
+write_hunks-requires g c =
     let s = g.T.ThreeSheets.sheets c.args.three.now in
     let e1 = or_newline (ending_of s c.args.front.now) in
     let x2 = each ours (side_lines s c.args.left.now) in
@@ -71,13 +71,13 @@ write-hunks-requires g c =
     let y2 = close e3 ∷ x4 in
     let y1 = x2 ++ y2 in
     let rule = g.S.Sink.rule in
-    let r1 = c.shown-ending-ahead.result in
-    let p1 = closed e1 r1 y1 c.shown-ending-ahead.ensures in
-    let d1 = part_done rule _ _ _ (close e1 ∷ y1) (close r1 ∷ []) y1 refl p1 c.assure-ends-with-nl-a1.ensures.written in
-    let d2 = part_done rule _ _ _ y1 x2 y2 d1 (record { is = refl }) c.write-hunks-a2.ensures.written in
-    let r3 = c.shown-ending-between.result in
-    let p3 = closed e3 r3 x4 c.shown-ending-between.ensures in
-    let d3 = part_done rule _ _ _ y2 (close r3 ∷ []) x4 d2 p3 c.assure-ends-with-nl-a3.ensures.written in
+    let r1 = c.shown-ending_ahead.result in
+    let p1 = closed e1 r1 y1 c.shown-ending_ahead.ensures in
+    let d1 = part_done rule _ _ _ (close e1 ∷ y1) (close r1 ∷ []) y1 refl p1 c.assure_ends_with_nl-a1.ensures.written in
+    let d2 = part_done rule _ _ _ y1 x2 y2 d1 (record { is = refl }) c.write_hunks-a2.ensures.written in
+    let r3 = c.shown_ending-between.result in
+    let p3 = closed e3 r3 x4 c.shown_ending-between.ensures in
+    let d3 = part_done rule _ _ _ y2 (close r3 ∷ []) x4 d2 p3 c.assure_ends_with_nl-a3.ensures.written in
     record { readable = c.requires.theirs; room = part_room rule _ _ x4 x4 [] c.requires.room d3 (record { is = sym (append-nil x4) }) }
 
 pub returns : goal.returns
@@ -90,14 +90,14 @@ returns g c =
     let y2 = close e3 ∷ x4 in
     let y1 = x2 ++ y2 in
     let rule = g.S.Sink.rule in
-    let r1 = c.shown-ending-ahead.result in
-    let p1 = closed e1 r1 y1 c.shown-ending-ahead.ensures in
-    let d1 = part_done rule _ _ _ (close e1 ∷ y1) (close r1 ∷ []) y1 refl p1 c.assure-ends-with-nl-a1.ensures.written in
-    let d2 = part_done rule _ _ _ y1 x2 y2 d1 (record { is = refl }) c.write-hunks-a2.ensures.written in
-    let r3 = c.shown-ending-between.result in
-    let p3 = closed e3 r3 x4 c.shown-ending-between.ensures in
-    let d3 = part_done rule _ _ _ y2 (close r3 ∷ []) x4 d2 p3 c.assure-ends-with-nl-a3.ensures.written in
+    let r1 = c.shown-ending_ahead.result in
+    let p1 = closed e1 r1 y1 c.shown-ending_ahead.ensures in
+    let d1 = part_done rule _ _ _ (close e1 ∷ y1) (close r1 ∷ []) y1 refl p1 c.assure_ends_with_nl-a1.ensures.written in
+    let d2 = part_done rule _ _ _ y1 x2 y2 d1 (record { is = refl }) c.write_hunks-a2.ensures.written in
+    let r3 = c.shown_ending-between.result in
+    let p3 = closed e3 r3 x4 c.shown_ending-between.ensures in
+    let d3 = part_done rule _ _ _ y2 (close r3 ∷ []) x4 d2 p3 c.assure_ends_with_nl-a3.ensures.written in
     record {
-      written = c.write-hunks.ensures.written ∙ d3;
-      kept = keeps_on (keeps_on (keeps_on c.assure-ends-with-nl-a1.ensures.kept c.write-hunks-a2.ensures.kept) c.assure-ends-with-nl-a3.ensures.kept) c.write-hunks.ensures.kept;
+      written = c.write_hunks.ensures.written ∙ d3;
+      kept = keeps_on (keeps_on (keeps_on c.assure_ends_with_nl-a1.ensures.kept c.write_hunks-a2.ensures.kept) c.assure_ends_with_nl-a3.ensures.kept) c.write_hunks.ensures.kept;
     }

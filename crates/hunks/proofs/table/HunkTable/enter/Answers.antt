@@ -9,19 +9,19 @@ use Rattle.hunks.specs.Tables.{model}
 use Rattle.hunks.proofs.Entering.{keeps_pushed}
 use Rattle.hunks.proofs.table.HunkTable.enter.Goals as goal
 
-pub returns-in-err-count : goal.returns-in-err-count
-returns-in-err-count c = record { answer = search rules; after = sym (turned_down _ _ _ _ _ (sym c.in-err-count.ensures)); same = search rules }
+pub returns-in_err-count : goal.returns-in_err-count
+returns-in_err-count c = record { answer = search rules; after = sym (turned_down _ _ _ _ _ (sym c.in_err-count.ensures)); same = search rules }
 
-pub invariant-of-self : goal.invariant-of-self
-invariant-of-self c =
+pub invariant_of-self : goal.invariant_of-self
+invariant_of-self c =
     let t = c.args.self.now in
     let h = c.args.hunk in
-    let ok = c.in-ok-count.ensures ∙ ap (λ (s : Side). answered (enter_questions (model t) s h) (length (held_of (model t) s) + 1)) c.in-Current.is in
-    (t.few, (keeps_pushed t.ancestor_lines t.current_lines Current (held t.current) (held c.push.new.self) h c.in-ok-count.count c.in-Current.is t.ours ok c.push.ensures.after, (t.theirs, tt)))
+    let ok = c.in_ok-count.ensures ∙ ap (λ (s : Side). answered (enter_questions (model t) s h) (length (held_of (model t) s) + 1)) c.in-Current.is in
+    (t.few, (keeps_pushed t.ancestor_lines t.current_lines Current (held t.current) (held c.push.new.self) h c.in_ok-count.count c.in-Current.is t.ours ok c.push.ensures.after, (t.theirs, tt)))
 
-pub invariant-of-self-in-Other : goal.invariant-of-self-in-Other
-invariant-of-self-in-Other c =
+pub invariant_of-self-in-Other : goal.invariant_of-self-in-Other
+invariant_of-self-in-Other c =
     let t = c.args.self.now in
     let h = c.args.hunk in
-    let ok = c.in-ok-count.ensures ∙ ap (λ (s : Side). answered (enter_questions (model t) s h) (length (held_of (model t) s) + 1)) c.in-Other.is in
-    (t.few, (t.ours, (keeps_pushed t.ancestor_lines t.other_lines Other (held t.other) (held c.push-in-Other.new.self) h c.in-ok-count.count c.in-Other.is t.theirs ok c.push-in-Other.ensures.after, tt)))
+    let ok = c.in_ok-count.ensures ∙ ap (λ (s : Side). answered (enter_questions (model t) s h) (length (held_of (model t) s) + 1)) c.in-Other.is in
+    (t.few, (t.ours, (keeps_pushed t.ancestor_lines t.other_lines Other (held t.other) (held c.push-in-Other.new.self) h c.in_ok-count.count c.in-Other.is t.theirs ok c.push-in-Other.ensures.after, tt)))

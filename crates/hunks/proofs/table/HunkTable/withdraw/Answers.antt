@@ -5,14 +5,14 @@ use Rattle.rules.proofs.Keeping.{keeps_withdraw}
 use Rattle.hunks.specs.Lists.{held}
 use Rattle.hunks.proofs.table.HunkTable.withdraw.Goals as goal
 
-pub invariant-of-self : goal.invariant-of-self
-invariant-of-self c =
+pub invariant_of-self : goal.invariant_of-self
+invariant_of-self c =
     let t = c.args.self.now in
     let kept = keeps_withdraw t.ancestor_lines t.current_lines Current (held t.current) t.ours in
     (t.few, (ap (keeps t.ancestor_lines t.current_lines Current) c.pop.ensures.after ∙ kept, (t.theirs, tt)))
 
-pub invariant-of-self-in-Other : goal.invariant-of-self-in-Other
-invariant-of-self-in-Other c =
+pub invariant_of-self-in-Other : goal.invariant_of-self-in-Other
+invariant_of-self-in-Other c =
     let t = c.args.self.now in
     let kept = keeps_withdraw t.ancestor_lines t.other_lines Other (held t.other) t.theirs in
     (t.few, (t.ours, (ap (keeps t.ancestor_lines t.other_lines Other) c.pop-in-Other.ensures.after ∙ kept, tt)))

@@ -11,16 +11,16 @@ one_on t i n m h e inv =
 
 pub returns-then-n-gt4294967295 : goal.returns-then-n-gt4294967295
 returns-then-n-gt4294967295 c =
-    let e = one_on c.args.digits.now c.loop-d.d-index c.loop-d.n c.saturating-sub.result c.loop-d-test.true c.saturating-sub.ensures c.loop-d.invariant.1 in
-    sym (too_large (c.loop-d.n * 10 + c.saturating-sub.result) (drop (c.loop-d.d-index + 1) c.args.digits.now) c.args.digits.now (omega (arith, c.if-n-gt4294967295.true)) e)
+    let e = one_on c.args.digits.now c.loop-d.d-index c.loop-d.n c.saturating_sub.result c.loop-d-test.true c.saturating_sub.ensures c.loop-d.invariant.1 in
+    sym (too_large (c.loop-d.n * 10 + c.saturating_sub.result) (drop (c.loop-d.d-index + 1) c.args.digits.now) c.args.digits.now (omega (arith, c.if-n-gt4294967295.true)) e)
 
 pub loop-d-preserved : goal.loop-d-preserved
 loop-d-preserved c =
-    let e = one_on c.args.digits.now c.loop-d.d-index c.loop-d.n c.saturating-sub.result c.loop-d-test.true c.saturating-sub.ensures c.loop-d.invariant.1 in
+    let e = one_on c.args.digits.now c.loop-d.d-index c.loop-d.n c.saturating_sub.result c.loop-d-test.true c.saturating_sub.ensures c.loop-d.invariant.1 in
     (omega (arith, c.if-n-gt4294967295.false), e)
 
 pub returns : goal.returns
 returns c =
     let e = sym (at_drop_all (value_on c.loop-d.n) c.args.digits.now c.loop-d.d-index c.loop-d-test.false) ∙ c.loop-d.invariant.1 in
-    let some = eqb-false (length c.args.digits.now) 0 (sym c.if-is-empty.ensures) in
+    let some = eqb-false (length c.args.digits.now) 0 (sym c.if-is_empty.ensures) in
     sym (number_whole c.loop-d.n c.args.digits.now (omega (arith, some)) c.loop-d.invariant.0 e)

@@ -8,13 +8,13 @@ use Rattle.std.proofs.lemmas.Bool.Decides.{Decides-eqb}
 all_of : (n : ℕ) (t : List ℕ) → take (length t - n) (drop n t) ≡ drop n t
 all_of n t = let e = length-drop n t in take_all (length t - n) (drop n t) (omega arith)
 
-pub returns-then-starts-with : goal.returns-then-starts-with
-returns-then-starts-with c =
-    let d = slice_eq-Decides Decides-eqb c.args.word.now (take (length c.args.word.now) c.args.line.now) c.starts-with.result c.starts-with.ensures.value in
+pub returns-then-starts_with : goal.returns-then-starts_with
+returns-then-starts_with c =
+    let d = slice_eq-Decides Decides-eqb c.args.word.now (take (length c.args.word.now) c.args.line.now) c.starts_with.result c.starts_with.ensures.value in
     ap Some (all_of (length c.args.word.now) c.args.line.now) ∙
-    sym (word_there c.args.word.now c.args.line.now (sym (d.0 c.if-starts-with.true)))
+    sym (word_there c.args.word.now c.args.line.now (sym (d.0 c.if-starts_with.true)))
 
-pub returns-else-starts-with : goal.returns-else-starts-with
-returns-else-starts-with c =
-    let d = slice_eq-Decides Decides-eqb c.args.word.now (take (length c.args.word.now) c.args.line.now) c.starts-with.result c.starts-with.ensures.value in
-    sym (word_absent c.args.word.now c.args.line.now (λ e. true≢false (sym (d.1 (sym e)) ∙ c.if-starts-with.false)))
+pub returns-else-starts_with : goal.returns-else-starts_with
+returns-else-starts_with c =
+    let d = slice_eq-Decides Decides-eqb c.args.word.now (take (length c.args.word.now) c.args.line.now) c.starts_with.result c.starts_with.ensures.value in
+    sym (word_absent c.args.word.now c.args.line.now (λ e. true≢false (sym (d.1 (sym e)) ∙ c.if-starts_with.false)))

@@ -3,12 +3,12 @@ use Rattle.sheet.proofs.CellLaws.{cells_formed}
 use Rattle.sheet.proofs.CellsTold.{cell_law}
 use Rattle.sheet.proofs.cells.CellSheet.open.Goals as goal
 
-pub returns-in-err-lines : goal.returns-in-err-lines
-returns-in-err-lines c = record { answer = search rules; shown = search rules; opened = search rules; refused = search rules; law = cell_law c.args.memory.now }
+pub returns-in_err-lines : goal.returns-in_err-lines
+returns-in_err-lines c = record { answer = search rules; shown = search rules; opened = search rules; refused = search rules; law = cell_law c.args.memory.now }
 
-pub invariant-of-self : goal.invariant-of-self
-invariant-of-self c =
-    let ok = ap is_ok (sym c.in-ok-lines.ensures) in
+pub invariant_of-self : goal.invariant_of-self
+invariant_of-self c =
+    let ok = ap is_ok (sym c.in_ok-lines.ensures) in
     (ok, (cells_formed c.args.memory.now ok, tt))
 
 pub returns : goal.returns

@@ -8,8 +8,8 @@ returns-then-n-self c =
     let e = length_cells (length c.args.self.now.memory.now / 48) c.args.self.now.memory.now in
     sym (nth_none _ c.args.n (rw e c.if-n-self.true))
 
-pub slice-bounds-result-end : goal.slice-bounds-result-end
-slice-bounds-result-end c = cell_within c.args.self.now.memory.now c.args.n c.args.self.now.fit c.if-n-self.false
+pub slice_bounds-result-end : goal.slice_bounds-result-end
+slice_bounds-result-end c = cell_within c.args.self.now.memory.now c.args.n c.args.self.now.fit c.if-n-self.false
 
 pub returns : goal.returns
 returns c = cell_shown c.args.self.now.memory.now c.args.n c.args.self.now.fit c.if-n-self.false

@@ -36,14 +36,14 @@ bounds-self-n-then-n-count-2 c =
     let e = c.count-2.ensures ∙ sym c.args.self.now.counted in
     omega arith
 
-pub slice-bounds-result-count : goal.slice-bounds-result-count
-slice-bounds-result-count c = part_ordered c.args.self.now c.args.n c.if-n-count-2.to (within c) (ends c)
+pub slice_bounds-result-count : goal.slice_bounds-result-count
+slice_bounds-result-count c = part_ordered c.args.self.now c.args.n c.if-n-count-2.to (within c) (ends c)
 
-pub slice-bounds-result-start : goal.slice-bounds-result-start
-slice-bounds-result-start c = part_ordered c.args.self.now c.args.n c.if-n-count-2.to (within c) (ends c)
+pub slice_bounds-result-start : goal.slice_bounds-result-start
+slice_bounds-result-start c = part_ordered c.args.self.now c.args.n c.if-n-count-2.to (within c) (ends c)
 
-pub slice-bounds-result-end : goal.slice-bounds-result-end
-slice-bounds-result-end c = part_within c.args.self.now c.args.n c.if-n-count-2.to (within c) (ends c)
+pub slice_bounds-result-end : goal.slice_bounds-result-end
+slice_bounds-result-end c = part_within c.args.self.now c.args.n c.if-n-count-2.to (within c) (ends c)
 
 pub returns : goal.returns
 returns c =

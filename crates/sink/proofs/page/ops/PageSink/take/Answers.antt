@@ -19,8 +19,8 @@ loop-i-preserved c =
       c.loop-i.invariant.2,
     )
 
-pub invariant-of-self-2 : goal.invariant-of-self-2
-invariant-of-self-2 c =
+pub invariant_of-self-2 : goal.invariant_of-self-2
+invariant_of-self-2 c =
     let m : c.args.self.now.taken + length c.bytes-bytes.result.now ≤ length c.args.self.now.buffer.now = omega (arith, c.args.self.now.within, c.args.self.now.fits) in
     let w = put_all c.args.self.now.buffer.now c.bytes-bytes.result.now c.loop-i.self.buffer.now c.args.self.now.taken c.loop-i.i c.loop-i.invariant.0 c.loop-i.auto.i-end c.loop-i-test.false in
     let s : length c.loop-i.self.buffer.now ≡ length c.args.self.now.buffer.now =
