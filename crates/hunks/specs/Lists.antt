@@ -1,7 +1,7 @@
 -- Lists of hunks in a fixed number of places: what they hold, and what one more hunk makes of them.
 use Rattle.std.specs.Prelude.{◌≡◌, ℕ, ◌+◌, cond, List, [], ◌∷◌, ◌++◌, length, take, Some, None, Option, nat_le, nat_lt, slice_set}
 use Rattle.std.proofs.Common.{◌∙◌, length-set}
-use Rattle.std.specs.Borrow.{Bor}
+use Rattle.std.specs.Borrow.{MutBor}
 use Rattle.rules.specs.declared.hunk.Hunk.{Hunk}
 use Rattle.hunks.specs.declared.list.HunkList.{HunkList}
 
@@ -22,6 +22,6 @@ abbrev pub with_hunk : {N : ℕ} → HunkList N → ℕ → Hunk → HunkList N
 with_hunk l i w = record { items = slice_set l.items i w; len = l.len; fits = (l.fits.0, length-set l.items i w ∙ l.fits.1) }
 
 -- The hunk that a reference points to, if one was lent.
-abbrev pub pointed : Option (Bor Hunk) → Option Hunk
+abbrev pub pointed : Option (MutBor Hunk) → Option Hunk
 pointed None = None
 pointed (Some r) = Some r.now

@@ -3,4 +3,4 @@ use Rattle.std.proofs.lemmas.List.{length-replicate}
 use Rattle.hunks.proofs.list.HunkList.new.Goals as goal
 
 pub invariant_of-result : goal.invariant_of-result
-invariant_of-result g c = ((omega arith, length-replicate _ _), tt)
+invariant_of-result g c = record { fits = (omega arith, length-replicate _ _) }

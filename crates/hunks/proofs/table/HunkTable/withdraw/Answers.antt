@@ -9,10 +9,10 @@ pub invariant_of-self : goal.invariant_of-self
 invariant_of-self c =
     let t = c.args.self.now in
     let kept = keeps_withdraw t.ancestor_lines t.current_lines Current (held t.current) t.ours in
-    (t.few, (ap (keeps t.ancestor_lines t.current_lines Current) c.pop.ensures.after ∙ kept, (t.theirs, tt)))
+    record { few = t.few; ours = ap (keeps t.ancestor_lines t.current_lines Current) c.pop.ensures.after ∙ kept; theirs = t.theirs }
 
 pub invariant_of-self-in-Other : goal.invariant_of-self-in-Other
 invariant_of-self-in-Other c =
     let t = c.args.self.now in
     let kept = keeps_withdraw t.ancestor_lines t.other_lines Other (held t.other) t.theirs in
-    (t.few, (t.ours, (ap (keeps t.ancestor_lines t.other_lines Other) c.pop-in-Other.ensures.after ∙ kept, tt)))
+    record { few = t.few; ours = t.ours; theirs = ap (keeps t.ancestor_lines t.other_lines Other) c.pop-in-Other.ensures.after ∙ kept }

@@ -9,7 +9,7 @@ returns-in_err-lines c = record { answer = search rules; shown = search rules; o
 pub invariant_of-self : goal.invariant_of-self
 invariant_of-self c =
     let ok = ap is_ok (sym c.in_ok-lines.ensures) in
-    (ok, (cells_formed c.args.memory.now ok, tt))
+    record { fit = ok; formed = cells_formed c.args.memory.now ok }
 
 pub returns : goal.returns
 returns c = record { answer = search rules; shown = search rules; opened = search rules; refused = search rules; law = cell_law c.args.memory.now }

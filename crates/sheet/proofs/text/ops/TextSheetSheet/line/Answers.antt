@@ -10,7 +10,7 @@ low k n c h e = omega arith
 high : (k n c : ℕ) → n ≤ k → n ≡ c → c ≤ k
 high k n c h e = omega arith
 
-ends : (c : goal.After-row-known·1) → Ends c.args.self.now c.args.n c.if-n-count-2.to
+ends : (c : goal.After-row_known-1) → Ends c.args.self.now c.args.n c.if-n-count-2.to
 ends c =
     let e = c.count-2.ensures ∙ sym c.args.self.now.counted in
     elim c.if-n-count-2.branch [
@@ -18,7 +18,7 @@ ends c =
       | else-n-count-2 w ↦ inr (high _ _ _ w.if-n-count-2.false e, w.to-is)
     ]
 
-within : (c : goal.After-row-known·1) → c.args.n < c.args.self.now.lines
+within : (c : goal.After-row_known-1) → c.args.n < c.args.self.now.lines
 within c = low _ _ _ c.if-n-count.false (c.count.ensures ∙ sym c.args.self.now.counted)
 
 pub returns-then-n-count : goal.returns-then-n-count

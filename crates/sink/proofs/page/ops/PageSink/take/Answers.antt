@@ -24,10 +24,11 @@ invariant_of-self-2 c =
     let m : c.args.self.now.taken + length c.bytes-bytes.result.now ≤ length c.args.self.now.buffer.now = omega (arith, c.args.self.now.within, c.args.self.now.fits) in
     let w = put_all c.args.self.now.buffer.now c.bytes-bytes.result.now c.loop-i.self.buffer.now c.args.self.now.taken c.loop-i.i c.loop-i.invariant.0 c.loop-i.auto.i-end c.loop-i-test.false in
     let s : length c.loop-i.self.buffer.now ≡ length c.args.self.now.buffer.now =
-    ap length w ∙ length_put c.args.self.now.buffer.now c.bytes-bytes.result.now c.args.self.now.taken (length c.bytes-bytes.result.now) (omega arith) m in (
-      omega (arith, c.args.self.now.within, c.loop-i.invariant.1, c.if-bytes-room.false),
-      (omega (arith, c.args.self.now.fits, c.loop-i.invariant.1, s), tt),
-    )
+    ap length w ∙ length_put c.args.self.now.buffer.now c.bytes-bytes.result.now c.args.self.now.taken (length c.bytes-bytes.result.now) (omega arith) m in
+    record {
+      within = omega (arith, c.args.self.now.within, c.loop-i.invariant.1, c.if-bytes-room.false);
+      fits = omega (arith, c.args.self.now.fits, c.loop-i.invariant.1, s);
+    }
 
 pub returns : goal.returns
 returns c =
