@@ -77,8 +77,8 @@ returns-else-j-b g c =
     let v = c.run in
     front_end_right s a b v.i v.k v.j v.m v.n c.requires.ours c.requires.theirs v.invariant c.if-j-b.false
 
-pub returns-after_run : goal.returns-after_run
-returns-after_run g c =
+pub returns-after-run : goal.returns-after-run
+returns-after-run g c =
     let s = g.T.ThreeSheets.sheets c.args.three.now in
     let a = c.args.a.now in
     let b = c.args.b.now in
