@@ -39,7 +39,7 @@ fn keep_behind<const N: usize>(list: &mut HunkList<N>, whole: usize, lines: u32)
 /// Adds what stands ahead of a place in other hunks.
 fn push_ahead<const N: usize>(list: &mut HunkList<N>, hunks: &[Hunk], whole: usize, lines: u32)
     requires placed { Placed whole lines hunks.now }
-    requires hunks_len_bound { length (held list.old) + length (ahead_at whole lines hunks.now) ≤ N }
+    requires room { length (held list.old) + length (ahead_at whole lines hunks.now) ≤ N }
     ensures { held list.new ≡ held list.old ++ ahead_at whole lines hunks.now }
 {
     list.push_all(&hunks[..whole]);
@@ -53,7 +53,7 @@ fn push_ahead<const N: usize>(list: &mut HunkList<N>, hunks: &[Hunk], whole: usi
 /// Adds what stands behind a place in other hunks.
 fn push_behind<const N: usize>(list: &mut HunkList<N>, hunks: &[Hunk], whole: usize, lines: u32)
     requires placed { Placed whole lines hunks.now }
-    requires hunks_len_bound { length (held list.old) + length (behind_at whole lines hunks.now) ≤ N }
+    requires room { length (held list.old) + length (behind_at whole lines hunks.now) ≤ N }
     ensures { held list.new ≡ held list.old ++ behind_at whole lines hunks.now }
 {
     if lines == 0 {

@@ -132,7 +132,7 @@ impl<const N: usize> HunkList<N> {
     /// Lends hunk i, or nothing past the last; the others stay.
     pub fn lend(&mut self, i: usize) -> Option<&mut Hunk>
         ensures* writes_back { sem 𝓛 (follows_if (list-row N.row) hunk-row self.entry.ghost_name (name_of result) (λ w. with_hunk self.old i w) self.old) }
-        ensures facts { pointed result ≡ slice_get (held self.old) i }
+        ensures lent { pointed result ≡ slice_get (held self.old) i }
     {
         if i < self.len {
             Some(&mut self.items[i])

@@ -13,7 +13,7 @@ keep_lines-requires g c =
     let ts = held c.truncate-else-lines-eq0.new.self in
     let y = c.in-Some.hunk.now in
     let lt = placed_inside c.args.whole c.args.lines hs c.requires (omega arith) in
-    let e = lent_ahead c.args.whole hs ts y lt c.truncate-else-lines-eq0.ensures (lent_some ts c.args.whole y c.in-Some.ensures) in
+    let e = lent_ahead c.args.whole hs ts y lt c.truncate-else-lines-eq0.ensures (lent_some ts c.args.whole y c.in-Some.ensures.lent) in
     (omega arith, subst (λ (x : Hunk). c.args.lines ≤ hunk_size x) (sym e) c.requires.lines)
 
 pub returns-in-Some : goal.returns-in-Some
@@ -23,7 +23,7 @@ returns-in-Some g c =
     let y = c.in-Some.hunk.now in
     let x = c.keep_lines.new.hunk in
     let lt = placed_inside c.args.whole c.args.lines hs c.requires (omega arith) in
-    ahead_cut c.args.whole c.args.lines hs (held l) _ x y lt (omega arith) c.truncate-else-lines-eq0.ensures (lent_some (held l) c.args.whole y c.in-Some.ensures) c.keep_lines.ensures (take_set_in l.len l.items c.args.whole x)
+    ahead_cut c.args.whole c.args.lines hs (held l) _ x y lt (omega arith) c.truncate-else-lines-eq0.ensures (lent_some (held l) c.args.whole y c.in-Some.ensures.lent) c.keep_lines.ensures (take_set_in l.len l.items c.args.whole x)
 
 pub returns-in_default : goal.returns-in_default
 returns-in_default g c =
@@ -31,5 +31,5 @@ returns-in_default g c =
     let ts = held c.truncate-else-lines-eq0.new.self in
     let lt = placed_inside c.args.whole c.args.lines hs c.requires (omega arith) in
     let e : length ts ≡ c.args.whole + 1 = ap length c.truncate-else-lines-eq0.ensures ∙ length-take-le (c.args.whole + 1) hs (omega arith) in
-    let le = lent_none ts c.args.whole c.in_default.ensures in
+    let le = lent_none ts c.args.whole c.in_default.ensures.lent in
     absurd (omega arith)

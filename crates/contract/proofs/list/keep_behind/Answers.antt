@@ -13,7 +13,7 @@ drop_lines-requires g c =
     let ts = held c.remove_front.new.self in
     let y = c.in-Some.hunk.now in
     let lt = placed_inside c.args.whole c.args.lines hs c.requires (omega arith) in
-    let e = lent_behind c.args.whole hs ts y lt c.remove_front.ensures (lent_some ts 0 y c.in-Some.ensures) in
+    let e = lent_behind c.args.whole hs ts y lt c.remove_front.ensures (lent_some ts 0 y c.in-Some.ensures.lent) in
     (omega arith, subst (λ (x : Hunk). c.args.lines ≤ hunk_size x) (sym e) c.requires.lines)
 
 pub returns-in-Some : goal.returns-in-Some
@@ -23,7 +23,7 @@ returns-in-Some g c =
     let y = c.in-Some.hunk.now in
     let x = c.drop_lines.new.hunk in
     let lt = placed_inside c.args.whole c.args.lines hs c.requires (omega arith) in
-    behind_cut c.args.whole c.args.lines hs (held l) _ x y lt (omega arith) c.remove_front.ensures (lent_some (held l) 0 y c.in-Some.ensures) c.drop_lines.ensures (take_set_in l.len l.items 0 x)
+    behind_cut c.args.whole c.args.lines hs (held l) _ x y lt (omega arith) c.remove_front.ensures (lent_some (held l) 0 y c.in-Some.ensures.lent) c.drop_lines.ensures (take_set_in l.len l.items 0 x)
 
 pub returns-in_default : goal.returns-in_default
 returns-in_default g c =
@@ -31,5 +31,5 @@ returns-in_default g c =
     let ts = held c.remove_front.new.self in
     let lt = placed_inside c.args.whole c.args.lines hs c.requires (omega arith) in
     let e : length ts ≡ length hs - c.args.whole = ap length c.remove_front.ensures ∙ length-drop c.args.whole hs in
-    let le = lent_none ts 0 c.in_default.ensures in
+    let le = lent_none ts 0 c.in_default.ensures.lent in
     absurd (omega arith)

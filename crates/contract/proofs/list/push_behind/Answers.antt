@@ -6,16 +6,16 @@ use Rattle.contract.proofs.Cutting.{placed_inside, behind_length, pushed_behind,
 use Rattle.contract.proofs.list.push_behind.Goals as goal
 
 pub bounds-hunks-whole : goal.bounds-hunks-whole
-bounds-hunks-whole g c = placed_inside c.args.whole c.args.lines c.args.hunks.now c.requires.0 (omega arith)
+bounds-hunks-whole g c = placed_inside c.args.whole c.args.lines c.args.hunks.now c.requires.placed (omega arith)
 
 pub slice_bounds-push_all-count-else-lines-eq0 : goal.slice_bounds-push_all-count-else-lines-eq0
 slice_bounds-push_all-count-else-lines-eq0 g c =
-    let lt = placed_inside c.args.whole c.args.lines c.args.hunks.now c.requires.0 (omega arith) in
+    let lt = placed_inside c.args.whole c.args.lines c.args.hunks.now c.requires.placed (omega arith) in
     omega arith
 
 pub slice_bounds-push_all-start-else-lines-eq0 : goal.slice_bounds-push_all-start-else-lines-eq0
 slice_bounds-push_all-start-else-lines-eq0 g c =
-    let lt = placed_inside c.args.whole c.args.lines c.args.hunks.now c.requires.0 (omega arith) in
+    let lt = placed_inside c.args.whole c.args.lines c.args.hunks.now c.requires.placed (omega arith) in
     omega arith
 
 pub returns-then-lines-eq0 : goal.returns-then-lines-eq0
@@ -25,8 +25,8 @@ returns-then-lines-eq0 g c =
     let hs = c.args.hunks.now in
     let p = held c.args.list.now in
     let ts = take (length hs - w) (drop w hs) in
-    let room = c.requires.1 in
-    let r = behind_length w k hs c.requires.0 in
+    let room = c.requires.room in
+    let r = behind_length w k hs c.requires.placed in
     let e : length ts ≡ length hs - w = ap length (take_rest hs w) ∙ length-drop w hs in
     pushed_behind_none w k hs p _ (omega arith) (c.push_all.ensures.after ∙ pushed_all_room g.row.N p ts (omega arith))
 
@@ -39,9 +39,9 @@ returns-else-lines-eq0 g c =
     let q = held c.push.new.self in
     let x = c.drop_lines.new.hunk in
     let ts = take (length hs - (w + 1)) (drop (w + 1) hs) in
-    let room = c.requires.1 in
-    let lt = placed_inside w k hs c.requires.0 (omega arith) in
-    let r = behind_length w k hs c.requires.0 in
+    let room = c.requires.room in
+    let lt = placed_inside w k hs c.requires.placed (omega arith) in
+    let r = behind_length w k hs c.requires.placed in
     let e : length ts ≡ length hs - (w + 1) = ap length (take_rest hs (w + 1)) ∙ length-drop (w + 1) hs in
     let eq : q ≡ p ++ (x ∷ []) = c.push.ensures.after ∙ pushed_room g.row.N p x (omega arith) in
     let l = ap length eq ∙ length-append p (x ∷ []) in

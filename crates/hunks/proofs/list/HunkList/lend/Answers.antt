@@ -21,8 +21,8 @@ pub returns-then-i-self : goal.returns-then-i-self
 returns-then-i-self g c =
     let l = c.args.self.now in (
       lent_as _ _ _ (λ (w : Hunk). same_list (set l.items c.args.i w) l.len _ _),
-      record { writes_back = tt; facts = sym (take_nth _ _ _ _ c.if-i-self.true (omega (arith, l.fits.0, l.fits.1))) },
+      record { writes_back = tt; lent = sym (take_nth _ _ _ _ c.if-i-self.true (omega (arith, l.fits.0, l.fits.1))) },
     )
 
 pub returns-else-i-self : goal.returns-else-i-self
-returns-else-i-self g c = (refl, record { writes_back = tt; facts = sym (take_nth_past _ _ _ c.if-i-self.false (omega (arith, c.args.self.now.fits.0, c.args.self.now.fits.1))) })
+returns-else-i-self g c = (refl, record { writes_back = tt; lent = sym (take_nth_past _ _ _ c.if-i-self.false (omega (arith, c.args.self.now.fits.0, c.args.self.now.fits.1))) })
