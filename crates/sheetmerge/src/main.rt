@@ -56,7 +56,7 @@ fn do_line(
             Ok(())
         }
         None => {
-            print!(rt, "not understood: ")?;
+            print!(rt; "not understood: ")?;
             show_line(rt, line)?;
             outcomes.push(Outcome::NotUnderstood)?;
             Ok(())

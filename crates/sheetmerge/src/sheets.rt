@@ -57,7 +57,7 @@ pub fn list<S: Sheet>(rt: &HostRuntime, sheet: &S) -> io::Result<Outcome> {
     for n in 0..sheet.count() {
         if let Some(line) = sheet.line(n) {
             let ending = ending_word(line, ending_of(line));
-            print!(rt, "{n:>6}  {ending:<5}  ")?;
+            print!(rt; "{n:>6}  {ending:<5}  ")?;
             show_line(rt, line)?;
         }
     }

@@ -15,7 +15,7 @@ returns c =
     let k = e.rest page.taken (omega arith) in
     let n : page.buffer.ghost_name ≡ start.buffer.ghost_name = ap (λ x. x.0) k in
     let d : drop page.taken page.buffer.now ≡ drop page.taken start.buffer.now = ap (λ x. x.1) k in
-    let o = ap (λ r. r.name) c.new-page.ensures.buffer in
+    let o = ap (λ r. r.ghost_name) c.new-page.ensures.buffer in
     let same = sym (n ∙ o) in
     let m : start.buffer.now ≡ c.args.buffer.now = ap (λ r. r.now) c.new-page.ensures.buffer in
     record {

@@ -23,8 +23,8 @@ assure_ends_with_nl-a1-requires g c =
     let y2 = close e3 ∷ x4 in
     let y1 = x2 ++ y2 in
     let rule = g.S.Sink.rule in
-    let r1 = c.shown-ending_ahead.result in
-    let p1 = closed e1 r1 y1 c.shown-ending_ahead.ensures in
+    let r1 = c.shown_ending-ahead.result in
+    let p1 = closed e1 r1 y1 c.shown_ending-ahead.ensures in
     let v = c.args.sink.now in
     record { room = part_room rule (state (g.S.Sink.value v) (g.S.Sink.taken v) (g.S.Sink.announced v) c.args.ajar) _ (close e1 ∷ y1) (close r1 ∷ []) y1 c.requires.room refl p1 }
 
@@ -38,8 +38,8 @@ write_hunks-a2-requires g c =
     let y2 = close e3 ∷ x4 in
     let y1 = x2 ++ y2 in
     let rule = g.S.Sink.rule in
-    let r1 = c.shown-ending_ahead.result in
-    let p1 = closed e1 r1 y1 c.shown-ending_ahead.ensures in
+    let r1 = c.shown_ending-ahead.result in
+    let p1 = closed e1 r1 y1 c.shown_ending-ahead.ensures in
     let d1 = part_done rule _ _ _ (close e1 ∷ y1) (close r1 ∷ []) y1 refl p1 c.assure_ends_with_nl-a1.ensures.written in
     record { readable = c.requires.ours; room = part_room rule _ _ y1 x2 y2 c.requires.room d1 (record { is = refl }) }
 
@@ -53,8 +53,8 @@ assure_ends_with_nl-a3-requires g c =
     let y2 = close e3 ∷ x4 in
     let y1 = x2 ++ y2 in
     let rule = g.S.Sink.rule in
-    let r1 = c.shown-ending_ahead.result in
-    let p1 = closed e1 r1 y1 c.shown-ending_ahead.ensures in
+    let r1 = c.shown_ending-ahead.result in
+    let p1 = closed e1 r1 y1 c.shown_ending-ahead.ensures in
     let d1 = part_done rule _ _ _ (close e1 ∷ y1) (close r1 ∷ []) y1 refl p1 c.assure_ends_with_nl-a1.ensures.written in
     let d2 = part_done rule _ _ _ y1 x2 y2 d1 (record { is = refl }) c.write_hunks-a2.ensures.written in
     let r3 = c.shown_ending-between.result in
@@ -71,8 +71,8 @@ write_hunks-requires g c =
     let y2 = close e3 ∷ x4 in
     let y1 = x2 ++ y2 in
     let rule = g.S.Sink.rule in
-    let r1 = c.shown-ending_ahead.result in
-    let p1 = closed e1 r1 y1 c.shown-ending_ahead.ensures in
+    let r1 = c.shown_ending-ahead.result in
+    let p1 = closed e1 r1 y1 c.shown_ending-ahead.ensures in
     let d1 = part_done rule _ _ _ (close e1 ∷ y1) (close r1 ∷ []) y1 refl p1 c.assure_ends_with_nl-a1.ensures.written in
     let d2 = part_done rule _ _ _ y1 x2 y2 d1 (record { is = refl }) c.write_hunks-a2.ensures.written in
     let r3 = c.shown_ending-between.result in
@@ -90,8 +90,8 @@ returns g c =
     let y2 = close e3 ∷ x4 in
     let y1 = x2 ++ y2 in
     let rule = g.S.Sink.rule in
-    let r1 = c.shown-ending_ahead.result in
-    let p1 = closed e1 r1 y1 c.shown-ending_ahead.ensures in
+    let r1 = c.shown_ending-ahead.result in
+    let p1 = closed e1 r1 y1 c.shown_ending-ahead.ensures in
     let d1 = part_done rule _ _ _ (close e1 ∷ y1) (close r1 ∷ []) y1 refl p1 c.assure_ends_with_nl-a1.ensures.written in
     let d2 = part_done rule _ _ _ y1 x2 y2 d1 (record { is = refl }) c.write_hunks-a2.ensures.written in
     let r3 = c.shown_ending-between.result in
