@@ -31,7 +31,7 @@ returns-in_err-needed g c =
     let s = g.T.ThreeSheets.sheets c.args.three.now in
     let a = asked c.args.mode c.args.labels (g.S.Sink.capacity c.args.sink.now) in
     let r = c.in_err-needed.field-0.0 in
-    let k : c.from-residual.result ≡ Err c.in_err-needed.field-0.0 = search rules in
+    let k : c.from_residual.result ≡ Err c.in_err-needed.field-0.0 = search rules in
     let q : render_questions t s a ≡ Some r = refused_too t s a r (sym c.in_err-needed.ensures) in
     record {
       answer = k ∙ refused_answer t s a r q;

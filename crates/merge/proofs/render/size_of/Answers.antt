@@ -10,7 +10,7 @@ use Rattle.merge.proofs.render.size_of.Goals as goal
 
 pub returns-in_err-admit : goal.returns-in_err-admit
 returns-in_err-admit g c =
-    let k : c.from-residual.result ≡ Err c.in_err-admit.field-0.0 = search rules in
+    let k : c.from_residual.result ≡ Err c.in_err-admit.field-0.0 = search rules in
     k ∙ refused_alike (model c.args.table.now) (g.T.ThreeSheets.sheets c.args.three.now) c.args.mode (labels_in c.args.labels) c.in_err-admit.field-0.0 tt (sym c.in_err-admit.ensures)
 
 pub measure-requires : goal.measure-requires
