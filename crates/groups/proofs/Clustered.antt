@@ -1,5 +1,5 @@
 -- What is told of the first cluster: its range, its first hunk, and whether it is a group.
-use Rattle.std.proofs.Common.{◌≡◌, ℕ, suc, ◌+◌, ◌<◌, ◌≤◌, max, Bool, true, false, cond, T, List, [], ◌∷◌, ◌++◌, length, take, drop, Some, None, filter, Option, sym, refl, ap, ◌∙◌, subst, ap₂, ⊎_elim, arith}
+use Rattle.std.proofs.Common.{◌≡◌, ℕ, suc, ◌+◌, ◌<◌, max, Bool, true, false, cond, T, List, [], ◌∷◌, ◌++◌, length, take, drop, Some, None, filter, sym, refl, ap, ◌∙◌, subst, ap₂, ⊎_elim, arith}
 use mathlib.Core.List.{Memᴰ}
 use Rattle.std.specs.List.{AllByRecursion as All, slice_get}
 use Rattle.std.proofs.lemmas.List.{length-take-le}
@@ -7,11 +7,10 @@ use Rattle.std.proofs.lemmas.Bool.{cases_Bool, cond_both}
 use Rattle.rules.specs.declared.hunk.Hunk.{Hunk}
 use Rattle.rules.specs.declared.hunk.Side.{Side}
 use Rattle.rules.specs.declared.hunk.Side.TheVariants.{Current, Other, Ancestor}
-use Rattle.rules.specs.Hunks.{Sheets, touches, touches_any}
-use Rattle.rules.specs.Walk.{walk, picked, currents, others, is_current, is_other}
-use Rattle.rules.specs.Groups.{Cluster, members, clusters, is_group, from, to, last_end}
+use Rattle.rules.specs.Hunks.{touches, touches_any}
+use Rattle.rules.specs.Walk.{walk, currents, others, is_current, is_other}
+use Rattle.rules.specs.Groups.{Cluster, members, clusters, is_group, to, last_end}
 use Rattle.rules.specs.GroupLaws.{all_members}
-use Rattle.rules.specs.Order.{Kept}
 use Rattle.rules.proofs.Chains.{parted, groups_are_chains}
 use Rattle.rules.proofs.Fits.{walk_all, AllMembers, clusters_all}
 use Rattle.rules.proofs.Kept.{currents_walk, others_walk}
@@ -19,7 +18,7 @@ use Rattle.rules.proofs.Woven.{Sided, Run, runs, any_true}
 use Rattle.groups.specs.declared.next.NextCluster.{NextCluster}
 use Rattle.groups.specs.Taking.{KeptHunks, one_of, facing_of, Taken}
 use Rattle.groups.proofs.Starting.{lone}
-use Rattle.groups.specs.Telling.{told, first_told, Next, Rest}
+use Rattle.groups.specs.Telling.{told, first_told, Next}
 
 -- The runs of the two sides.
 pub our_run : (cs os : List Hunk) → KeptHunks cs os → Run Current 0 cs

@@ -1,5 +1,5 @@
 -- A cluster as it grows: the first i hunks of the current side and the first j of the other are taken.
-use Rattle.std.proofs.Common.{◌≡◌, ℕ, zero, suc, ◌+◌, ◌-◌, ◌<◌, ◌≤◌, Bool, true, false, cond, List, [], ◌∷◌, ◌++◌, length, get_or, take, drop, Some, None, filter, sym, refl, ap, ◌∙◌, subst, ap₂, ⊎_elim, arith}
+use Rattle.std.proofs.Common.{◌≡◌, ℕ, ◌+◌, ◌-◌, ◌<◌, ◌≤◌, Bool, true, false, List, [], ◌∷◌, ◌++◌, length, get_or, take, drop, sym, refl, ap, ◌∙◌, subst, ap₂, ⊎_elim, arith}
 use Rattle.std.specs.List.{slice_get}
 use Rattle.std.proofs.lemmas.List.Elements.{filter-append}
 use Rattle.std.proofs.lemmas.List.{append-nil, drop_more, take_more, length-drop, length-take-le}
@@ -7,7 +7,7 @@ use Rattle.std.proofs.lemmas.Bool.{cond-true, cond-false}
 use Rattle.rules.specs.declared.hunk.Hunk.{Hunk}
 use Rattle.rules.specs.declared.hunk.Side.{Side}
 use Rattle.rules.specs.declared.hunk.Side.TheVariants.{Current, Other}
-use Rattle.rules.specs.Hunks.{opposite, touches, touches_any}
+use Rattle.rules.specs.Hunks.{opposite, touches_any}
 use Rattle.rules.specs.Tables.{last_of}
 use Rattle.rules.specs.Walk.{walk, picked, currents, others, is_current, is_other}
 use Rattle.rules.specs.Groups.{Cluster, members, joined, clusters, clusters_from}
@@ -15,10 +15,10 @@ use Rattle.rules.proofs.Chains.{alone}
 use Rattle.rules.proofs.Picked.{any_currents, any_others}
 use Rattle.rules.proofs.Woven.{Run}
 use Rattle.hunks.proofs.Helds.{no_hunk}
-use Rattle.groups.specs.Taking.{offers, one_of, taken, Taken}
+use Rattle.groups.specs.Taking.{offers, taken, Taken}
 use Rattle.groups.proofs.Ordered.{run_at, run_gap, touch_ranges, front_one, touches_none}
 use Rattle.groups.proofs.Heads.{drop_head, lead_current, lead_other, head_is}
-use Rattle.groups.proofs.Offered.{Offered, offered, offered_is}
+use Rattle.groups.proofs.Offered.{offered, offered_is}
 
 pub record Growing (cs os : List Hunk) (i j : ℕ) : Type 0 where
   pub cluster : Cluster

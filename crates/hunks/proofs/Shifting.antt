@@ -1,6 +1,6 @@
 -- The items of a list move up by n places.
-use Rattle.std.proofs.Common.{◌≡◌, ℕ, zero, suc, ◌+◌, ◌-◌, ◌<◌, ◌≤◌, List, [], ◌∷◌, ◌++◌, length, get_or, take, drop, set, sym, refl, ap, ◌∙◌, ap₂, arith}
-use Rattle.std.proofs.lemmas.List.{append_assoc, length-take-le, length-drop, take_more, drop_more, take_at, drop-take, take-take, get_or-append_right, get_or-drop, set_at}
+use Rattle.std.proofs.Common.{◌≡◌, ℕ, ◌+◌, ◌-◌, ◌<◌, ◌≤◌, List, [], ◌∷◌, ◌++◌, length, get_or, take, drop, set, sym, ap, ◌∙◌, ap₂, arith}
+use Rattle.std.proofs.lemmas.List.{append_assoc, length-take-le, length-drop, take_more, drop_more, take_at, drop-take, get_or-append_right, get_or-drop, set_at}
 
 pub shift_step : {X : Type 0} (xs ys : List X) (n i : ℕ) (d : X) → i + n < length xs → ys ≡ take i (drop n xs) ++ drop i xs
     → set ys i (get_or ys (i + n) d) ≡ take (i + 1) (drop n xs) ++ drop (i + 1) xs

@@ -1,5 +1,5 @@
 -- Lists of hunks in a fixed number of places: what they hold, and what one more hunk makes of them.
-use Rattle.std.specs.Prelude.{◌≡◌, ℕ, ◌+◌, cond, List, [], ◌∷◌, ◌++◌, length, take, Some, None, Option, nat_le, nat_lt, slice_set}
+use Rattle.std.specs.Prelude.{ℕ, ◌+◌, cond, List, [], ◌∷◌, ◌++◌, length, take, Some, None, Option, nat_le, nat_lt, slice_set}
 use Rattle.std.proofs.Common.{◌∙◌, length-set}
 use Rattle.std.specs.Borrow.{MutBor}
 use Rattle.rules.specs.declared.hunk.Hunk.{Hunk}

@@ -6,8 +6,8 @@ use Rattle.rules.specs.declared.hunk.Side.TheVariants.{Current, Other, Ancestor}
 use Rattle.job.specs.declared.command.SheetKind.{SheetKind}
 use Rattle.job.specs.declared.command.SheetKind.TheVariants.{Text, Cells}
 use Rattle.job.specs.Numbers.{Fits32}
-use Rattle.job.specs.Orders.{Order, nothing, sheet, lines, row, open_by_sheets, open_by, enter, withdraw, held, help, hunk_of, hunk_order, hunk_text, numbers_text, order_of, read_open, spelled, Spellable, ReadsBack}
-use Rattle.job.specs.Words.{and_then, side_word}
+use Rattle.job.specs.Orders.{nothing, sheet, lines, row, open_by_sheets, open_by, enter, withdraw, held, help, hunk_of, hunk_order, hunk_text, numbers_text, order_of, read_open, spelled, ReadsBack}
+use Rattle.job.specs.Words.{and_then}
 use Rattle.job.proofs.NumbersBack.{marked_back, last_back}
 
 sheet_back : (side : Side) (kind : SheetKind) (b : ℕ) (bs : List ℕ) → order_of (spelled (sheet side kind (b ∷ bs))) ≡ Some (sheet side kind (b ∷ bs))

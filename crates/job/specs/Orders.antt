@@ -1,9 +1,8 @@
 -- What a line of a job asks for, how it is read and how it is spelled.
-use Rattle.std.specs.Prelude.{◌≡◌, ℕ, Bool, true, false, cond, List, [], ◌∷◌, ◌++◌, Some, None, codes, decimal, Option, ◌==◌}
+use Rattle.std.specs.Prelude.{◌≡◌, ℕ, Bool, true, cond, List, [], ◌∷◌, ◌++◌, Some, None, codes, decimal, Option, ◌==◌}
 use Rattle.std.specs.Option.{option_map, option_or}
 use Rattle.rules.specs.declared.hunk.Hunk.{Hunk}
 use Rattle.rules.specs.declared.hunk.Side.{Side}
-use Rattle.rules.specs.declared.hunk.Side.TheVariants.{Current, Other, Ancestor}
 use Rattle.rules.specs.declared.hunk.Span.{Span}
 use Rattle.rules.specs.Lines.{same_line}
 use Rattle.job.specs.declared.command.SheetKind.{SheetKind}

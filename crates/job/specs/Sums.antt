@@ -1,5 +1,5 @@
 -- The summing up of a job.
-use Rattle.std.specs.Prelude.{ℕ, suc, Bool, cond, List, [], ◌∷◌, length, ◌==◌}
+use Rattle.std.specs.Prelude.{ℕ, suc, cond, List, [], ◌∷◌, length, ◌==◌}
 use Rattle.job.specs.declared.outcome.Outcome.{Outcome}
 use Rattle.job.specs.declared.outcome.Outcome.TheVariants.{Done, Refused, Failed, NotUnderstood}
 use Rattle.job.specs.declared.outcome.Summary.{Summary}

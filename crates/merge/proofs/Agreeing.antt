@@ -4,12 +4,11 @@ use Rattle.rules.specs.Exchange.{HoldsExchanged, exchanged_sheets}
 use Rattle.rules.specs.Hunks.{Sheets, sheets_of}
 use Rattle.rules.specs.Lines.{Line}
 use Rattle.rules.specs.Pieces.{Chunk}
-use Rattle.rules.specs.Renders.{Asked}
 use Rattle.rules.specs.Runs.{opening}
 use Rattle.rules.specs.TableLaws.{TableKeeps}
 use Rattle.rules.specs.Tables.{Held}
 use Rattle.rules.specs.Texts.{LineList}
-use Rattle.rules.specs.TwoUnits.{UnitOf, table_of}
+use Rattle.rules.specs.TwoUnits.{table_of}
 use Rattle.rules.proofs.Rendered.{accepted_counted}
 use Rattle.rules.proofs.RunAgreement.{agree_over_runs}
 use Rattle.rules.proofs.TableKeeps.{table_kept, tables_keep}

@@ -1,8 +1,8 @@
 -- How far a run has come, and what it has left once all its calls are made.
-use Rattle.std.proofs.Common.{◌≡◌, ℕ, zero, suc, ◌+◌, ◌<◌, ◌≤◌, true, List, [], ◌∷◌, ◌++◌, map, length, get_or, drop, set, is_err, Some, None, Ok, Err, Option, Result, sym, refl, ap, ◌∙◌, subst, ap₂, add-one, arith}
+use Rattle.std.proofs.Common.{◌≡◌, ℕ, suc, ◌+◌, ◌≤◌, true, List, [], ◌∷◌, map, length, drop, set, is_err, Some, None, Ok, Option, Result, sym, refl, ap, ◌∙◌, subst, ap₂, add-one, arith}
 use native.Mathlib.Nat.{le-max_left, le-max_right}
 use Rattle.std.specs.List.{AllByRecursion as All}
-use Rattle.std.proofs.lemmas.List.{drop_more, drop_all}
+use Rattle.std.proofs.lemmas.List.{drop_all}
 use Rattle.std.proofs.lemmas.Bool.{le-leb}
 use Rattle.rules.specs.declared.mode.Resolution.{Resolution}
 use Rattle.rules.specs.declared.refusal.RenderRefusal.{RenderRefusal}
@@ -13,9 +13,9 @@ use Rattle.rules.specs.Questions.{answered, changed}
 use Rattle.rules.specs.Renders.{Asked, render_answer, render_questions, render_sink, SinkState, filled_sink}
 use Rattle.rules.specs.RunLaws.{FewLines}
 use Rattle.rules.specs.Runs.{Call as RulesCall, opening, NoOpening, after_call, after_calls, after_run, answer, answers}
-use Rattle.rules.specs.Tables.{Held, open_answer, open_questions}
+use Rattle.rules.specs.Tables.{Held, open_answer}
 use Rattle.rules.specs.Texts.{LineList}
-use Rattle.rules.specs.TwoUnits.{UnitOf, table_of, shown}
+use Rattle.rules.specs.TwoUnits.{shown}
 use Rattle.rules.specs.Verdict.{verdict}
 use Rattle.rules.proofs.Asking.{then_yes}
 use Rattle.rules.proofs.TableKeeps.{after_both}

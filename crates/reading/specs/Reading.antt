@@ -1,9 +1,8 @@
 -- What is read of a list of hunks.
-use Rattle.std.specs.Prelude.{ℕ, ◌+◌, ◌≤◌, Bool, false, ◌||◌, List, [], ◌∷◌, length, nat_lt}
+use Rattle.std.specs.Prelude.{ℕ, ◌+◌, Bool, false, ◌||◌, List, [], ◌∷◌, nat_lt}
 use Rattle.rules.specs.declared.hunk.Hunk.{Hunk}
 use Rattle.rules.specs.declared.hunk.Side.TheVariants.{Current}
-use Rattle.rules.specs.Hunks.{Sheets, sheet_of}
-use Rattle.rules.specs.Contraction.{read_range, hunk_size}
+use Rattle.rules.specs.Contraction.{hunk_size}
 
 -- How many lines are read of a list's hunks.
 abbrev pub line_count : List Hunk → ℕ

@@ -1,5 +1,5 @@
 -- A turn of the loop over the clusters: the ancestor's lines ahead of the next cluster, the cluster, and what is left.
-use Rattle.std.proofs.Common.{◌≡◌, ℕ, zero, suc, ◌+◌, ◌-◌, ◌<◌, ◌≤◌, Bool, true, false, cond, ◌&&◌, ◌||◌, List, [], ◌∷◌, ◌++◌, length, take, drop, sym, refl, ap, ◌∙◌, subst, ap₂, arith}
+use Rattle.std.proofs.Common.{◌≡◌, ℕ, ◌+◌, ◌<◌, ◌≤◌, Bool, true, false, cond, ◌&&◌, ◌||◌, List, [], ◌∷◌, ◌++◌, length, take, sym, refl, ap, ◌∙◌, subst, ap₂, arith}
 use Rattle.std.specs.List.{AllByRecursion as All}
 use Rattle.std.proofs.lemmas.List.{append-nil, take_rest}
 use Rattle.rules.specs.declared.hunk.Side.{Side}
@@ -7,7 +7,7 @@ use Rattle.rules.specs.declared.hunk.Side.TheVariants.{Current, Other, Ancestor}
 use Rattle.rules.specs.declared.hunk.Hunk.{Hunk}
 use Rattle.rules.specs.declared.mode.Conflict as modes
 use Rattle.rules.specs.Contraction.{Readable}
-use Rattle.rules.specs.Groups.{Cluster, clusters, members, is_group, from, to}
+use Rattle.rules.specs.Groups.{Cluster, clusters, members, is_group}
 use Rattle.rules.specs.Hunks.{Sheets, hunk_lines, side_lines}
 use Rattle.rules.specs.Limits.{max_hunks}
 use Rattle.rules.specs.Lines.{between}

@@ -1,8 +1,8 @@
 -- What the answer of a cell sheet tells of its cells.
-use Rattle.std.proofs.Common.{◌≡◌, ℕ, zero, suc, ◌+◌, ◌-◌, ◌*◌, ◌/◌, ◌%◌, ◌<◌, ◌≤◌, Bool, true, false, cond, eqb, ltb, List, length, take, drop, is_ok, Some, None, Ok, Err, Option, sym, refl, ap, ◌∙◌, subst, arith, ltb-false, ltb-true, eq-eqb, eqb-true}
+use Rattle.std.proofs.Common.{◌≡◌, ℕ, zero, suc, ◌+◌, ◌*◌, ◌%◌, ◌<◌, Bool, true, false, cond, eqb, ltb, List, length, take, drop, is_ok, Some, None, Ok, Err, Option, refl, ap, ◌∙◌, subst, arith, ltb-false, ltb-true, eq-eqb, eqb-true}
 use Rattle.std.proofs.lemmas.List.{drop-drop}
 use Rattle.std.proofs.lemmas.Bool.Decides.{nat_tests}
-use Rattle.sheet.specs.Cells.{cell_good, first_bad, judged, cells_answer, cells_in, CellLaw}
+use Rattle.sheet.specs.Cells.{cell_good, first_bad, judged, cells_in, CellLaw}
 use Rattle.sheet.specs.declared.refusal.SheetRefusal.TheVariants.{CellsUnfit, BadCell}
 use Rattle.sheet.proofs.CellLaws.{cells_fit, nth_in_cells}
 

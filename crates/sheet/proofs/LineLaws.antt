@@ -1,8 +1,8 @@
-use Rattle.std.proofs.Common.{◌≡◌, ℕ, zero, suc, ◌+◌, ◌-◌, ◌<◌, ◌≤◌, min, Bool, true, false, cond, eqb, List, [], ◌∷◌, ◌++◌, length, get_or, take, drop, Some, None, Option, sym, refl, ap, ◌∙◌, subst, append_assoc, add-zero, suc-add, zero-add, add-one, arith, length-append, length-take, eqb-true}
-use Rattle.std.proofs.lemmas.List.{drop_all, drop-drop, drop_at, take_at, get_or-take, append-nil}
+use Rattle.std.proofs.Common.{◌≡◌, ℕ, zero, suc, ◌+◌, ◌-◌, ◌<◌, ◌≤◌, Bool, true, false, cond, eqb, List, [], ◌∷◌, ◌++◌, length, get_or, take, drop, Some, None, sym, refl, ap, ◌∙◌, add-zero, suc-add, zero-add, arith, length-append}
+use Rattle.std.proofs.lemmas.List.{drop_all, take_at, append-nil}
 use Rattle.rules.specs.Texts.{onto, text_lines, joined_lines, nth_line, is_line, are_lines, Formed}
 use Rattle.sheet.specs.Splits.{LineLaw}
-use Rattle.sheet.specs.Starts.{starts_at, starts_of}
+use Rattle.sheet.specs.Starts.{starts_at}
 
 pub length_starts : (k : ℕ) (ls : List (List ℕ)) → length (starts_at k ls) ≡ length ls
 length_starts k [] = refl

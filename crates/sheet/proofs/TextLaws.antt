@@ -1,9 +1,8 @@
-use Rattle.std.proofs.Common.{◌≡◌, ℕ, zero, suc, ◌+◌, ◌-◌, ◌<◌, ◌≤◌, min, ◌⊎◌, List, [], ◌∷◌, ◌++◌, length, get_or, take, drop, Some, None, Option, sym, refl, ap, ◌∙◌, subst, inl, inr, zero-add, add-one, arith, length-take}
+use Rattle.std.proofs.Common.{◌≡◌, ℕ, suc, ◌+◌, ◌-◌, ◌<◌, ◌≤◌, ◌⊎◌, List, length, get_or, take, drop, Some, None, sym, ap, ◌∙◌, subst, inl, inr, zero-add, add-one, arith, length-take}
 use Rattle.std.proofs.lemmas.List.{get_or-take}
 use Rattle.sheet.specs.declared.text.TextSheet.{TextSheet}
-use Rattle.rules.specs.Texts.{text_lines, nth_line, Formed}
-use Rattle.sheet.specs.Starts.{starts_at, starts_of}
-use Rattle.sheet.proofs.LineLaws.{length_starts, nth_none, place, start_at, place_up, place_within, place_all, nth_part, bytes_split, formed_split}
+use Rattle.rules.specs.Texts.{text_lines, nth_line}
+use Rattle.sheet.proofs.LineLaws.{length_starts, nth_none, place, start_at, place_up, place_within, place_all, nth_part, bytes_split}
 
 abbrev pub lines_of : TextSheet → List (List ℕ)
 lines_of s = text_lines s.text.now

@@ -1,10 +1,10 @@
 -- What a row sink shows: of any pieces, the wanted row of their bytes joined.
-use Rattle.std.proofs.Common.{◌≡◌, ℕ, zero, suc, ◌+◌, ◌-◌, ◌<◌, ◌≤◌, Bool, true, false, cond, eqb, ltb, ◌⊎◌, List, [], ◌∷◌, ◌++◌, length, take, set, sym, refl, ap, ◌∙◌, subst, inl, inr, ⊎_elim, append_assoc, append-nil, arith, length-append, length-take-le, take_all, take_at, le-ltb, lt-ltb, eq-eqb, ne_eqb}
+use Rattle.std.proofs.Common.{◌≡◌, ℕ, zero, suc, ◌+◌, ◌<◌, ◌≤◌, Bool, true, false, cond, eqb, ltb, List, [], ◌∷◌, ◌++◌, length, take, set, sym, refl, ap, ◌∙◌, ⊎_elim, append_assoc, append-nil, arith, length-append, length-take-le, take_all, take_at, le-ltb, lt-ltb, eq-eqb, ne_eqb}
 use Rattle.std.proofs.lemmas.Bool.{cond-true, cond-false, cases_Bool, cases_lt}
-use Rattle.std.proofs.lemmas.List.{take_more, take_more_set}
+use Rattle.std.proofs.lemmas.List.{take_more_set}
 use Rattle.rules.specs.Limits.{row_width}
 use Rattle.rules.specs.Pieces.{Chunk, all_bytes, made}
-use Rattle.sink.specs.Rows.{RowValue, row, shown_row, before_newline, behind_newline, fresh_row, shows, shows_all, row_rule}
+use Rattle.sink.specs.Rows.{RowValue, row, shown_row, before_newline, fresh_row, shows, shows_all, row_rule}
 
 abbrev at_row : ℕ → ℕ → List ℕ → RowValue
 at_row w n xs = record { wanted = w; newlines = n; bytes = xs }

@@ -1,11 +1,10 @@
 -- What a sink's answers tell.
-use Rattle.std.proofs.Common.{◌≡◌, ℕ, ◌+◌, ◌-◌, ◌<◌, ◌≤◌, Bool, true, false, cond, leb, is_err, Ok, Err, Result, sym, refl, ap, ◌∙◌, ⊎_elim, arith, le-leb}
+use Rattle.std.proofs.Common.{◌≡◌, ℕ, ◌+◌, ◌-◌, ◌<◌, ◌≤◌, true, false, leb, is_err, Ok, Err, Result, sym, refl, ap, ◌∙◌, ⊎_elim, le-leb}
 use borrow.Author.Tests.{lt-leb}
 use Rattle.std.proofs.lemmas.Bool.{cond-true, cond-false, cases_lt, true≢false}
 use Rattle.sink.specs.Answers.{largest, begin_answer, take_answer, write_answer}
 use Rattle.sink.specs.declared.refusal.NoRoom.{NoRoom}
 use Rattle.sink.specs.declared.refusal.TooLong.{TooLong}
-use Rattle.sink.specs.declared.refusal.Unwritten.{Unwritten}
 use Rattle.sink.specs.declared.refusal.Unwritten.TheVariants as why
 
 pub begin_ok : (n c : ℕ) → n ≤ c → begin_answer n c ≡ Ok tt

@@ -1,5 +1,5 @@
 -- The two sides of a group as a mode takes them.
-use Rattle.std.proofs.Common.{◌≡◌, ℕ, ◌≤◌, Bool, true, false, cond, List, [], ◌∷◌, ◌++◌, length, take, drop, sym, refl, ap, ◌∙◌, arith}
+use Rattle.std.proofs.Common.{◌≡◌, ℕ, ◌≤◌, Bool, true, false, cond, List, [], ◌++◌, length, take, drop, sym, refl, ap, ◌∙◌, arith}
 use Rattle.std.specs.List.{AllByRecursion as All}
 use Rattle.std.proofs.lemmas.List.{take_at, drop_at, length-append}
 use Rattle.std.proofs.lemmas.Bool.{cond_both}
@@ -7,20 +7,19 @@ use Rattle.rules.specs.declared.hunk.Hunk.{Hunk}
 use Rattle.rules.specs.declared.mode.ConflictStyle.{ConflictStyle}
 use Rattle.rules.specs.declared.mode.Conflict.TheVariants.{Keep, ResolveWithOurs, ResolveWithTheirs, ResolveWithUnion}
 use Rattle.rules.specs.Limits.{max_filled}
-use Rattle.rules.specs.Lines.{same_lines}
-use Rattle.rules.specs.Hunks.{Sheets, side_lines}
+use Rattle.rules.specs.Hunks.{Sheets}
 use Rattle.rules.specs.Walk.{is_current}
 use Rattle.rules.specs.Groups.{Cluster, from, to}
 use Rattle.rules.specs.Filling.{ours_of, theirs_of}
 use Rattle.rules.specs.Contraction.{Readable}
-use Rattle.rules.specs.Sides.{Sides, contracts, contracted_by, contracted_sides, sides_in, whole_sides}
+use Rattle.rules.specs.Sides.{Sides, contracts, contracted_by, sides_in, whole_sides}
 use Rattle.rules.specs.Blocks.{keep_steps, blocked}
 use Rattle.rules.specs.Unions.{union_steps}
 use Rattle.hunks.specs.declared.list.HunkList.{HunkList}
 use Rattle.hunks.specs.Lists.{held}
 use Rattle.hunks.proofs.Helds.{held_length}
 use Rattle.contract.proofs.Contracting.{readables}
-use Rattle.writing.specs.Sides.{sides_of, contracted_lists, lists_in, lists_differ, GroupTold, GroupsTold}
+use Rattle.writing.specs.Sides.{sides_of, contracted_lists, lists_in, lists_differ, GroupsTold}
 
 -- All four lists can be read.
 pub record Readables (s : Sheets) (d : Sides) : Type 0 where

@@ -1,4 +1,4 @@
-use Rattle.std.proofs.Common.{◌≡◌, ℕ, max, length, take, sym, ◌∙◌, ap₂}
+use Rattle.std.proofs.Common.{max, sym, ◌∙◌, ap₂}
 use Rattle.std.proofs.lemmas.List.{length-take-le}
 use Rattle.groups.proofs.Clustered.{Grouped, by_touching, by_itself, next_is}
 use Rattle.groups.proofs.next.cluster_of.Goals as goal

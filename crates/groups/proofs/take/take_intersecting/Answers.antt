@@ -1,4 +1,4 @@
-use Rattle.std.proofs.Common.{◌≡◌, ◌<◌, ◌≤◌, length, sym, subst, arith}
+use Rattle.std.proofs.Common.{◌<◌, length, sym, subst, arith}
 use Rattle.groups.proofs.Offered.{offered_below}
 use Rattle.groups.proofs.Growing.{Growing, grow_other, grow_current, complete, taken_is}
 use Rattle.groups.proofs.Starting.{started}

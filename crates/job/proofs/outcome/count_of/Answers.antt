@@ -1,4 +1,4 @@
-use Rattle.std.proofs.Common.{◌≡◌, ℕ, suc, ◌+◌, cond, List, length, get_or, drop, sym, refl, ap, ◌∙◌, arith, eq-eqb, ne_eqb}
+use Rattle.std.proofs.Common.{◌≡◌, suc, ◌+◌, cond, get_or, drop, sym, refl, ap, ◌∙◌, arith, eq-eqb, ne_eqb}
 use denote.Enum.Declared
 use Rattle.std.proofs.lemmas.List.{at_drop_more, at_drop_all}
 use Rattle.job.specs.contracts.outcome.Outcome as outcome

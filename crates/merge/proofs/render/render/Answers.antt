@@ -1,5 +1,4 @@
-use Rattle.std.proofs.Common.{◌≡◌, Ok, sym, refl, ap, ◌∙◌}
-use Rattle.rules.specs.declared.mode.Resolution.{Resolution}
+use Rattle.std.proofs.Common.{◌≡◌, sym, ap, ◌∙◌}
 use Rattle.rules.specs.Hunks.{Sheets}
 use Rattle.rules.specs.Renders.{render_answer, render_sink}
 use Rattle.rules.specs.Texts.{LineList}

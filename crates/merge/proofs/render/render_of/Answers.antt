@@ -1,19 +1,15 @@
-use Rattle.std.proofs.Common.{◌≡◌, ℕ, ◌+◌, ◌<◌, ◌≤◌, Bool, true, false, cond, leb, List, length, Some, None, Ok, Err, sym, refl, ap, ◌∙◌, ap₂, subst₂, arith, rules}
+use Rattle.std.proofs.Common.{◌≡◌, ℕ, ◌<◌, ◌≤◌, Bool, cond, List, length, Some, None, Ok, Err, sym, refl, ap, ◌∙◌, ap₂, subst₂, arith, rules}
 use Rattle.std.proofs.lemmas.Bool.{le-leb, lt-leb, true≢false}
 use Rattle.rules.specs.declared.hunk.Hunk.{Hunk}
-use Rattle.rules.specs.declared.mode.Resolution.{Resolution}
 use Rattle.rules.specs.declared.mode.Resolution.TheVariants.{Complete}
-use Rattle.rules.specs.declared.refusal.RenderRefusal.{RenderRefusal}
 use Rattle.rules.specs.declared.refusal.RenderRefusal.TheVariants.{SinkTooSmall}
 use Rattle.rules.specs.Groups.{clusters}
-use Rattle.rules.specs.Hunks.{Sheets}
 use Rattle.rules.specs.Limits.{max_hunks}
 use Rattle.rules.specs.Order.{Kept}
 use Rattle.rules.specs.Pieces.{total}
 use Rattle.rules.specs.Rendering.{rendering, steps_from}
-use Rattle.rules.specs.Renders.{render_questions, filled_sink, SinkState}
-use Rattle.rules.specs.Tables.{Held}
-use Rattle.rules.specs.Verdict.{any_marked, marked_verdict, verdict}
+use Rattle.rules.specs.Renders.{render_questions, filled_sink}
+use Rattle.rules.specs.Verdict.{marked_verdict, verdict}
 use Rattle.rules.specs.Walk.{walk}
 use Rattle.hunks.specs.Tables.{model}
 use Rattle.hunks.proofs.Keeping.{table_keeps}
@@ -21,7 +17,7 @@ use Rattle.sink.proofs.Told.{begun, not_begun, told}
 use Rattle.writing.specs.Marks.{labels_in}
 use Rattle.rendering.proofs.Measured.{size_bound}
 use Rattle.merge.specs.Asking.{asked, sink_at}
-use Rattle.merge.proofs.Admitted.{Admitted, admitted, size_yes, size_is, refused_too, too_small, has_room}
+use Rattle.merge.proofs.Admitted.{admitted, size_yes, size_is, refused_too, too_small, has_room}
 use Rattle.merge.proofs.Rendered.{same_sink, written_sink, refused_answer, refused_sink, given_answer, given_sink}
 use Rattle.merge.proofs.render.render_of.Goals as goal
 

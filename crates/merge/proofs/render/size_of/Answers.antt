@@ -1,11 +1,11 @@
-use Rattle.std.proofs.Common.{◌≡◌, ◌≤◌, List, length, Ok, Err, sym, ap, ◌∙◌, subst₂, rules}
+use Rattle.std.proofs.Common.{◌≡◌, ◌≤◌, List, length, Err, sym, ◌∙◌, subst₂, rules}
 use Rattle.rules.specs.declared.hunk.Hunk.{Hunk}
 use Rattle.rules.specs.Limits.{max_hunks}
 use Rattle.rules.specs.Order.{Kept}
 use Rattle.hunks.specs.Tables.{model}
 use Rattle.hunks.proofs.Keeping.{table_keeps}
 use Rattle.writing.specs.Marks.{labels_in}
-use Rattle.merge.proofs.Admitted.{admitted, answered_yes, refused_alike, sized}
+use Rattle.merge.proofs.Admitted.{admitted, answered_yes, refused_alike}
 use Rattle.merge.proofs.render.size_of.Goals as goal
 
 pub returns-in_err-admit : goal.returns-in_err-admit

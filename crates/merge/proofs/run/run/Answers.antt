@@ -1,18 +1,13 @@
-use Rattle.std.proofs.Common.{◌≡◌, ℕ, ◌≤◌, List, [], ◌∷◌, map, length, drop, Ok, Result, sym, refl, ap, ◌∙◌, subst, ap₂, arith}
-use Rattle.std.proofs.lemmas.List.{drop_more, drop_all}
+use Rattle.std.proofs.Common.{◌≡◌, ℕ, ◌∷◌, length, Result, refl, ap, ◌∙◌, ap₂}
+use Rattle.std.proofs.lemmas.List.{drop_more}
 use Rattle.rules.specs.declared.refusal.TableRefusal.{TableRefusal}
 use Rattle.rules.specs.Hunks.{Sheets}
-use Rattle.rules.specs.Renders.{SinkState}
-use Rattle.rules.specs.Runs.{opening, opened_as, after_call, after_calls, Answer as RulesAnswer, answer, answers}
-use Rattle.rules.specs.Tables.{Held, open_answer, open_after}
+use Rattle.rules.specs.Runs.{opening, opened_as, after_call, answer}
+use Rattle.rules.specs.Tables.{open_answer, open_after}
 use Rattle.rules.proofs.RunAgreement.{agree_over_runs}
 use Rattle.hunks.specs.Tables.{model}
 use Rattle.reading.specs.Three.{three_lists}
-use Rattle.merge.specs.Asking.{sink_at}
-use Rattle.merge.specs.Calls.{call_in, calls_in, run_in, answer_in, answers_to, written_over, sink_after, furthest}
-use Rattle.merge.specs.declared.run.Answer.{Answer}
-use Rattle.merge.specs.declared.run.Call.{Call}
-use Rattle.merge.proofs.Ran.{Going, going_none, going_on, noted_from, noted_all, answers_ruled, all_gone, unit_table, few_lines, opening_accepted, same_counts}
+use Rattle.merge.proofs.Ran.{going_none, going_on, answers_ruled, all_gone, unit_table, few_lines, opening_accepted, same_counts}
 use Rattle.merge.proofs.run.run.Goals as goal
 
 pub loop-n-init : goal.loop-n-init

@@ -1,4 +1,4 @@
-use Rattle.std.proofs.Common.{◌≡◌, ℕ, ◌≤◌}
+use Rattle.std.proofs.Common.{◌≡◌}
 use Rattle.hunks.specs.Tables.{model}
 use Rattle.reading.specs.Three.{three_lists}
 use Rattle.merge.specs.Asking.{sink_at}

@@ -1,4 +1,3 @@
-use Rattle.std.proofs.Common.{rules}
 use Rattle.hunks.proofs.Keeping.{table_keeps}
 use Rattle.merge.proofs.Agreeing.{units_told, kinds_agree}
 use Rattle.merge.proofs.units.render_units.Goals as goal

@@ -1,4 +1,4 @@
-use Rattle.std.proofs.Common.{◌≡◌, ℕ, ◌<◌, ◌≤◌, ap, arith}
+use Rattle.std.proofs.Common.{◌≡◌, ℕ, ap, arith}
 use Rattle.rules.specs.Pieces.{total}
 use Rattle.rules.specs.Rendering.{rendering}
 use Rattle.writing.specs.Marks.{labels_in}

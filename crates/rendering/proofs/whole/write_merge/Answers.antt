@@ -1,15 +1,12 @@
-use Rattle.std.proofs.Common.{◌≡◌, ℕ, ◌≤◌, Bool, false, ◌||◌, List, [], sym, refl, ap, ◌∙◌, arith}
+use Rattle.std.proofs.Common.{◌≡◌, ◌||◌, List, [], sym, ap, ◌∙◌, arith}
 use Rattle.std.proofs.lemmas.List.{append-nil}
 use Rattle.rules.specs.Groups.{clusters}
-use Rattle.rules.specs.Pieces.{common}
-use Rattle.rules.specs.Rendering.{steps_from}
-use Rattle.rules.specs.Steps.{Step, each}
+use Rattle.rules.specs.Steps.{Step}
 use Rattle.rules.specs.Walk.{walk}
 use Rattle.writing.specs.Marks.{labels_in}
-use Rattle.writing.specs.States.{after, state}
+use Rattle.writing.specs.States.{after}
 use Rattle.writing.proofs.Steps.{Parts, part_done, part_room, keeps_on}
-use Rattle.rendering.specs.Whole.{next_steps, next_marked}
-use Rattle.rendering.proofs.Turns.{Turn, turn, last_steps, marked_first, marked_next, marked_on, marked_last}
+use Rattle.rendering.proofs.Turns.{turn, last_steps, marked_first, marked_next, marked_on, marked_last}
 use Rattle.rendering.proofs.whole.write_merge.Goals as goal
 use Rattle.rendering.proofs.whole.write_merge.Goals.{then-marked, else-marked}
 

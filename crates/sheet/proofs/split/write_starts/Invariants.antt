@@ -1,5 +1,4 @@
-use Rattle.std.proofs.Common.{◌≡◌, ◌+◌, ◌≤◌, ◌++◌, length, take, drop}
-use Rattle.rules.specs.Texts.{text_lines}
+use Rattle.std.proofs.Common.{◌≡◌, ◌≤◌, ◌++◌, length, take, drop}
 use Rattle.sheet.specs.Starts.{starts_of}
 use Rattle.sheet.proofs.StartLaws.{starts_from}
 use Rattle.sheet.proofs.split.write_starts.Given as goal

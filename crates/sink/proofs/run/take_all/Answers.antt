@@ -1,4 +1,4 @@
-use Rattle.std.proofs.Common.{◌≡◌, ℕ, ◌+◌, ◌<◌, ◌≤◌, length, take, sym, refl, ap, ◌∙◌, arith}
+use Rattle.std.proofs.Common.{◌≡◌, ℕ, ◌+◌, take, sym, refl, ap, ◌∙◌, arith}
 use Rattle.rules.specs.Pieces.{made, total}
 use Rattle.sink.specs.Answers.{fitting}
 use Rattle.sink.specs.Pieces.{chunks}

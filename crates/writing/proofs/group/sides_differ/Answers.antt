@@ -1,4 +1,4 @@
-use Rattle.std.proofs.Common.{◌≡◌, ◌≤◌, List, length, sym, ◌∙◌, subst, ap₂}
+use Rattle.std.proofs.Common.{◌≤◌, List, length, sym, ◌∙◌, subst, ap₂}
 use Rattle.std.specs.List.{AllByRecursion as All}
 use Rattle.rules.specs.declared.hunk.Hunk.{Hunk}
 use Rattle.rules.specs.Limits.{max_filled}

@@ -1,4 +1,4 @@
-use Rattle.std.proofs.Common.{◌≡◌, sym, ap, ◌∙◌}
+use Rattle.std.proofs.Common.{sym, ap, ◌∙◌}
 use Rattle.rules.specs.declared.mode.Conflict as modes
 use Rattle.rules.specs.Walk.{is_current}
 use Rattle.hunks.specs.Lists.{held}

@@ -1,4 +1,4 @@
-use Rattle.std.proofs.Common.{◌≡◌, refl, ap, ◌∙◌}
+use Rattle.std.proofs.Common.{refl, ap, ◌∙◌}
 use Rattle.rules.specs.Hunks.{sheet_of}
 use Rattle.rules.specs.Steps.{each}
 use Rattle.sink.specs.Pieces.{chunk, chunk_of, kind_of}

@@ -1,11 +1,11 @@
-use Rattle.std.proofs.Common.{◌≡◌, List, [], ◌∷◌, ◌++◌, sym, refl, ap, ◌∙◌}
+use Rattle.std.proofs.Common.{[], ◌++◌, sym, refl, ◌∙◌}
 use Rattle.std.proofs.lemmas.List.{append-nil}
 use Rattle.rules.specs.Hunks.{side_lines}
 use Rattle.rules.specs.Pieces.{common}
 use Rattle.rules.specs.Steps.{each}
 use Rattle.rules.specs.Unions.{both_steps, back_close}
 use Rattle.writing.specs.States.{state}
-use Rattle.writing.proofs.Steps.{Parts, part_done, part_room, keeps_on}
+use Rattle.writing.proofs.Steps.{part_done, part_room, keeps_on}
 use Rattle.writing.proofs.union.write_union.Goals as goal
 
 pub write_hunks-a1-requires : goal.write_hunks-a1-requires

@@ -1,9 +1,8 @@
-use Rattle.std.proofs.Common.{◌≡◌, ℕ, ◌<◌, ◌≤◌, ◌⊎◌, List, length, set, sym, refl, ap, inl, inr, arith}
+use Rattle.std.proofs.Common.{◌≡◌, ℕ, ◌≤◌, ◌⊎◌, List, length, set, sym, refl, ap, inl, arith}
 use mathlib.Core.Path.{fun_ext}
 use Rattle.hunks.proofs.Helds.{take_nth, take_nth_past}
 use denote.Struct.Props.{props}
 use Rattle.rules.specs.declared.hunk.Hunk.{Hunk}
-use Rattle.hunks.specs.Lists.{with_hunk}
 use Rattle.hunks.specs.declared.list.HunkList.{HunkList}
 use Rattle.hunks.proofs.list.HunkList.lend.Goals as goal
 

@@ -1,4 +1,4 @@
-use Rattle.std.proofs.Common.{◌≡◌, ◌+◌, ◌<◌, ◌∙◌, arith}
+use Rattle.std.proofs.Common.{◌∙◌, arith}
 use Rattle.hunks.specs.Lists.{held}
 use Rattle.hunks.proofs.Helds.{no_hunk, held_length, drop_least}
 use Rattle.hunks.proofs.Shifting.{shift_step, shift_done}

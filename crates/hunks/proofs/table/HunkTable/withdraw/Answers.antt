@@ -1,4 +1,4 @@
-use Rattle.std.proofs.Common.{◌≡◌, true, ap, ◌∙◌}
+use Rattle.std.proofs.Common.{ap, ◌∙◌}
 use Rattle.rules.specs.declared.hunk.Side.TheVariants.{Current, Other}
 use Rattle.rules.specs.Tables.{keeps}
 use Rattle.rules.proofs.Keeping.{keeps_withdraw}

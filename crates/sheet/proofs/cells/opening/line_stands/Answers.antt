@@ -1,4 +1,4 @@
-use Rattle.std.proofs.Common.{true, false, not, sym, ap, ◌∙◌}
+use Rattle.std.proofs.Common.{not, sym, ap, ◌∙◌}
 use Rattle.sheet.proofs.CellLaws.{walk_first, walk_more, walk_broken, stops_ended, stops_open, stops_fresh}
 use Rattle.sheet.proofs.cells.opening.line_stands.Goals as goal
 

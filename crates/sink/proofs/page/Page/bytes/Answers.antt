@@ -1,4 +1,4 @@
-use Rattle.std.proofs.Common.{◌≡◌, [], refl, ap, ◌∙◌}
+use Rattle.std.proofs.Common.{[], refl, ◌∙◌}
 use Rattle.sink.proofs.Folds.{made_bytes}
 use Rattle.sink.proofs.page.Page.bytes.Goals as goal
 

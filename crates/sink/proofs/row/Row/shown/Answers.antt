@@ -1,4 +1,4 @@
-use Rattle.std.proofs.Common.{◌≡◌, refl, ap, ◌∙◌}
+use Rattle.std.proofs.Common.{refl, ap, ◌∙◌}
 use Rattle.sink.specs.Rows.{RowValue}
 use Rattle.sink.proofs.RowLaws.{row_law}
 use Rattle.sink.proofs.row.Row.shown.Goals as goal

@@ -1,4 +1,4 @@
-use Rattle.std.proofs.Common.{◌/◌, ◌≤◌, length, sym, subst, arith}
+use Rattle.std.proofs.Common.{◌/◌, length, sym}
 use Rattle.sheet.proofs.LineLaws.{nth_none}
 use Rattle.sheet.proofs.CellLaws.{length_cells, cell_within, cell_shown}
 use Rattle.sheet.proofs.cells.ops.CellSheetSheet.line.Goals as goal

@@ -1,4 +1,4 @@
-use Rattle.std.proofs.Common.{◌≡◌, ℕ, ◌+◌, ◌<◌, ◌≤◌, sym, ◌∙◌, subst, inl, inr, arith}
+use Rattle.std.proofs.Common.{◌≡◌, ℕ, ◌<◌, ◌≤◌, sym, ◌∙◌, inl, inr, arith}
 use Rattle.sheet.proofs.TextLaws.{room, Ends, part_ordered, part_within, part_is, past}
 use Rattle.sheet.proofs.text.ops.TextSheetSheet.line.Goals as goal
 use Rattle.sheet.proofs.text.ops.TextSheetSheet.line.Goals.{then-n-count-2, else-n-count-2}

@@ -1,7 +1,7 @@
-use Rattle.std.proofs.Common.{◌≡◌, ℕ, ◌+◌, ◌-◌, ◌<◌, ◌≤◌, List, ◌++◌, length, get_or, take, drop, set, sym, refl, ap, ◌∙◌, arith}
+use Rattle.std.proofs.Common.{◌≡◌, ℕ, ◌+◌, ◌≤◌, List, ◌++◌, length, get_or, take, drop, set, sym, refl, ap, ◌∙◌, arith}
 use Rattle.sink.specs.Pieces.{chunk}
 use Rattle.sink.proofs.Told.{take_ok}
-use Rattle.sink.proofs.Writes.{put, put_none, put_more, put_all, length_put, take_put, drop_put}
+use Rattle.sink.proofs.Writes.{put_none, put_more, put_all, length_put, take_put, drop_put}
 use Rattle.sink.proofs.page.ops.PageSink.take.Goals as goal
 
 pairs : {a b : ℕ} {xs ys : List ℕ} → a ≡ b → xs ≡ ys → ◌≡◌ {A = ℕ × List ℕ} (a, xs) (b, ys)

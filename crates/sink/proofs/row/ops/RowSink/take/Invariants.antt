@@ -1,4 +1,4 @@
-use Rattle.std.proofs.Common.{◌≡◌, ℕ, ◌+◌, take}
+use Rattle.std.proofs.Common.{◌≡◌, ◌+◌, take}
 use Rattle.sink.specs.Rows.{shows_all}
 use Rattle.sink.specs.RowState.{row_value}
 use Rattle.sink.proofs.row.ops.RowSink.take.Given as goal
