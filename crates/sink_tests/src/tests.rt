@@ -26,11 +26,11 @@ fn exactly_full_and_one_over(rt: HostRuntime) {
     assert_eq!(rt; page.begin(4), Ok(()));
     assert_eq!(rt; page.take(Piece::Common(b"abc")), Ok(()));
     assert_eq!(rt; page.take(Piece::Ours(b"de")), Err(NoRoom { room: 1 }));
-    assert!(rt; page.bytes() == b"abc");
+    assert!(rt; page.bytes() == b"abc".as_slice());
     assert_eq!(rt; page.take(Piece::Theirs(b"f")), Ok(()));
     assert_eq!(rt; page.take(Piece::Marker(b"")), Ok(()));
     assert_eq!(rt; page.take(Piece::Ending(b"\n")), Err(NoRoom { room: 0 }));
-    assert!(rt; page.bytes() == b"abcf");
+    assert!(rt; page.bytes() == b"abcf".as_slice());
 }
 
 #[test]
@@ -43,7 +43,7 @@ fn begin_starts_afresh(rt: HostRuntime) {
     assert_eq!(rt; page.begin(2), Ok(()));
     assert!(rt; page.bytes().is_empty());
     assert_eq!(rt; page.take(Piece::Common(b"xy")), Ok(()));
-    assert!(rt; page.bytes() == b"xy");
+    assert!(rt; page.bytes() == b"xy".as_slice());
 }
 
 #[test]
@@ -127,11 +127,11 @@ fn row_capacity(rt: HostRuntime) {
     );
     assert_eq!(rt; row.begin(4294967295), Ok(()));
     assert_eq!(rt; row.take(Piece::Common(b"a\nb")), Ok(()));
-    assert!(rt; row.shown() == b"b");
+    assert!(rt; row.shown() == b"b".as_slice());
     assert_eq!(rt; row.begin(3), Ok(()));
     assert!(rt; row.shown().is_empty());
     assert_eq!(rt; row.take(Piece::Common(b"\nxy")), Ok(()));
-    assert!(rt; row.shown() == b"xy");
+    assert!(rt; row.shown() == b"xy".as_slice());
 }
 
 #[test]
@@ -169,7 +169,7 @@ fn the_first_refused_ends_a_run(rt: HostRuntime) {
         ),
         1
     );
-    assert!(rt; page.bytes() == b"abc");
+    assert!(rt; page.bytes() == b"abc".as_slice());
 }
 
 // Whether piece `n` of the log has this kind and these bytes.

@@ -1,4 +1,4 @@
-use Rattle.std.proofs.Common.{◌≡◌, ℕ, ◌≤◌, List, [], ◌++◌, length, take, drop, sym, ap, ◌∙◌, arith, take-append-drop, rules}
+use Rattle.std.proofs.Common.{◌≡◌, ℕ, List, [], ◌++◌, length, take, drop, sym, ap, ◌∙◌, arith, take-append-drop, rules}
 use Rattle.rules.specs.Pieces.{Chunk, all_bytes, total}
 use Rattle.sink.specs.Answers.{write_answer}
 use Rattle.sink.specs.Pieces.{chunks}

@@ -1,4 +1,4 @@
-use Rattle.std.proofs.Common.{◌≡◌, ℕ, List, sym, refl, ap, ◌∙◌}
+use Rattle.std.proofs.Common.{◌≡◌, ℕ, List, refl, ap, ◌∙◌}
 use Rattle.std.specs.Result.{result_err}
 use Rattle.rules.specs.Pieces.{Chunk, made}
 use Rattle.sink.specs.Pieces.{chunks}

@@ -1,4 +1,4 @@
-use Rattle.std.proofs.Common.{◌≡◌, ℕ, ◌<◌, ◌≤◌, min, List, length, take, sym, refl, ap, ◌∙◌, ⊎_elim, arith, take_all, rules}
+use Rattle.std.proofs.Common.{◌≡◌, ℕ, ◌<◌, ◌≤◌, min, List, length, take, sym, ap, ◌∙◌, ⊎_elim, arith, take_all, rules}
 use Rattle.std.proofs.lemmas.Bool.{cases_lt}
 use Rattle.sink.specs.Pieces.{chunk_of}
 use Rattle.sink_tests.proofs.entry.Entry.piece.Goals as goal

@@ -1,4 +1,4 @@
-use Rattle.std.proofs.Common.{◌≡◌, sym, refl, ap, ◌∙◌}
+use Rattle.std.proofs.Common.{sym, refl, ap, ◌∙◌}
 use Rattle.sink_tests.specs.Logs.{LogValue, fresh_log}
 use Rattle.sink_tests.proofs.LogLaws.{keeps}
 use Rattle.sink_tests.proofs.log.Log.lost.Goals as goal

@@ -1,4 +1,4 @@
-use Rattle.std.proofs.Common.{◌≡◌, ℕ, ◌<◌, ◌≤◌, length, Some, None, sym, refl, ap, ◌∙◌, arith, rules}
+use Rattle.std.proofs.Common.{◌≡◌, length, Some, sym, ap, ◌∙◌, arith, rules}
 use Rattle.rules.specs.Pieces.{Chunk}
 use Rattle.sink_tests.proofs.LogLaws.{nth_kept, nth_past}
 use Rattle.sink_tests.proofs.log.Log.piece.Goals as goal

@@ -1,5 +1,4 @@
-use Rattle.std.proofs.Common.{◌≡◌, ℕ, ◌+◌, ◌<◌, ◌≤◌, length, sym, refl, ap, ◌∙◌, arith, rules}
-use Rattle.sink.proofs.Told.{take_ok}
+use Rattle.std.proofs.Common.{◌≡◌, length, ap, arith, rules}
 use Rattle.sink.specs.Pieces.{chunk}
 use Rattle.sink_tests.proofs.LogLaws.{one_more}
 use Rattle.sink_tests.proofs.log.ops.LogSink.take.Goals as goal
