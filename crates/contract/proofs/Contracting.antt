@@ -1,6 +1,6 @@
 -- What a cut keeps, and how long its parts are.
 use Rattle.std.proofs.Common.{◌≡◌, ℕ, zero, suc, ◌+◌, ◌<◌, ◌≤◌, false, eqb, List, [], ◌∷◌, ◌++◌, reverse, length, get_or, take, drop, sym, refl, ap, ◌∙◌, subst, arith}
-use Rattle.std.specs.List.{AllByRecursion as All}
+use Rattle.std.specs.List.{AllByRecursion}
 use Rattle.std.proofs.lemmas.List.{length-reverse}
 use Rattle.std.proofs.ByRecursion.{All-get_or, All-drop, All-take, All-push}
 use Rattle.std.proofs.lemmas.Bool.{cond_both}
@@ -32,14 +32,14 @@ nonzero : (m : ℕ) → eqb m 0 ≡ false → 0 < m
 nonzero zero z = let u : ◌≡◌ {A = ℕ} 0 1 = cc in absurd (omega arith)
 nonzero (suc m) z = omega arith
 
-readable_behind : (s : Sheets) (w k : ℕ) (hs : List Hunk) → Placed w k hs → All (Readable s) hs → All (Readable s) (behind_at w k hs)
+readable_behind : (s : Sheets) (w k : ℕ) (hs : List Hunk) → Placed w k hs → AllByRecursion (Readable s) hs → AllByRecursion (Readable s) (behind_at w k hs)
 readable_behind s w k hs p r =
-    cond_both (eqb k 0) (drop w hs) (later_lines k (get_or hs w no_hunk) ∷ drop (suc w) hs) (All (Readable s)) (λ e. All-drop (Readable s) w hs r)
+    cond_both (eqb k 0) (drop w hs) (later_lines k (get_or hs w no_hunk) ∷ drop (suc w) hs) (AllByRecursion (Readable s)) (λ e. All-drop (Readable s) w hs r)
     (λ e. (readable_later s k (get_or hs w no_hunk) (All-get_or (Readable s) hs w no_hunk (placed_inside w k hs p (nonzero k e)) r), All-drop (Readable s) (suc w) hs r))
 
-pub readable_cut : (s : Sheets) (n : ℕ) (hs gs : List Hunk) → gs ≡ (cut_front n hs).behind → All (Readable s) hs → All (Readable s) gs
+pub readable_cut : (s : Sheets) (n : ℕ) (hs gs : List Hunk) → gs ≡ (cut_front n hs).behind → AllByRecursion (Readable s) hs → AllByRecursion (Readable s) gs
 readable_cut s n hs gs e r =
-    subst (All (Readable s)) (sym (e ∙ (front_cut n hs).behind)) (readable_behind s (front_place n hs).0 (front_place n hs).1 hs (front_placed n hs) r)
+    subst (AllByRecursion (Readable s)) (sym (e ∙ (front_cut n hs).behind)) (readable_behind s (front_place n hs).0 (front_place n hs).1 hs (front_placed n hs) r)
 
 pub front_few : (n : ℕ) (hs : List Hunk) → length (cut_front n hs).ahead + length (cut_front n hs).behind ≤ length hs + 1
 front_few n hs =
@@ -115,27 +115,27 @@ readable_first s n h le pos r =
     let e : (read_range h.side h).end ≤ length (sheet_of s h.side) = r in
     readable_by s h.side h (record { start = (read_range h.side h).start; end = (read_range h.side h).start + n }) (omega arith)
 
-readable_ahead : (s : Sheets) (w k : ℕ) (hs : List Hunk) → Placed w k hs → All (Readable s) hs → All (Readable s) (ahead_at w k hs)
+readable_ahead : (s : Sheets) (w k : ℕ) (hs : List Hunk) → Placed w k hs → AllByRecursion (Readable s) hs → AllByRecursion (Readable s) (ahead_at w k hs)
 readable_ahead s w k hs p r =
-    cond_both (eqb k 0) (take w hs) (take w hs ++ (first_lines k (get_or hs w no_hunk) ∷ [])) (All (Readable s)) (λ e. All-take (Readable s) w hs r)
+    cond_both (eqb k 0) (take w hs) (take w hs ++ (first_lines k (get_or hs w no_hunk) ∷ [])) (AllByRecursion (Readable s)) (λ e. All-take (Readable s) w hs r)
     (λ e. All-push (Readable s) (take w hs) _ (All-take (Readable s) w hs r) (readable_first s k (get_or hs w no_hunk) p.lines (nonzero k e) (All-get_or (Readable s) hs w no_hunk (placed_inside w k hs p (nonzero k e)) r)))
 
 pub record Readables (s : Sheets) (c : Contracted) : Type 0 where
-  pub front : All (Readable s) c.front
-  pub lead : All (Readable s) c.lead
-  pub facing : All (Readable s) c.facing
-  pub back : All (Readable s) c.back
+  pub front : AllByRecursion (Readable s) c.front
+  pub lead : AllByRecursion (Readable s) c.lead
+  pub facing : AllByRecursion (Readable s) c.facing
+  pub back : AllByRecursion (Readable s) c.back
 
-front_ahead_readable : (s : Sheets) (n : ℕ) (hs : List Hunk) → All (Readable s) hs → All (Readable s) (cut_front n hs).ahead
-front_ahead_readable s n hs r = subst (All (Readable s)) (sym (front_cut n hs).ahead) (readable_ahead s (front_place n hs).0 (front_place n hs).1 hs (front_placed n hs) r)
+front_ahead_readable : (s : Sheets) (n : ℕ) (hs : List Hunk) → AllByRecursion (Readable s) hs → AllByRecursion (Readable s) (cut_front n hs).ahead
+front_ahead_readable s n hs r = subst (AllByRecursion (Readable s)) (sym (front_cut n hs).ahead) (readable_ahead s (front_place n hs).0 (front_place n hs).1 hs (front_placed n hs) r)
 
-back_ahead_readable : (s : Sheets) (n : ℕ) (hs : List Hunk) → All (Readable s) hs → All (Readable s) (cut_back n hs).ahead
-back_ahead_readable s n hs r = subst (All (Readable s)) (sym (back_cut n hs).ahead) (readable_ahead s (back_place n hs).0 (back_place n hs).1 hs (back_placed n hs) r)
+back_ahead_readable : (s : Sheets) (n : ℕ) (hs : List Hunk) → AllByRecursion (Readable s) hs → AllByRecursion (Readable s) (cut_back n hs).ahead
+back_ahead_readable s n hs r = subst (AllByRecursion (Readable s)) (sym (back_cut n hs).ahead) (readable_ahead s (back_place n hs).0 (back_place n hs).1 hs (back_placed n hs) r)
 
-back_behind_readable : (s : Sheets) (n : ℕ) (hs : List Hunk) → All (Readable s) hs → All (Readable s) (cut_back n hs).behind
-back_behind_readable s n hs r = subst (All (Readable s)) (sym (back_cut n hs).behind) (readable_behind s (back_place n hs).0 (back_place n hs).1 hs (back_placed n hs) r)
+back_behind_readable : (s : Sheets) (n : ℕ) (hs : List Hunk) → AllByRecursion (Readable s) hs → AllByRecursion (Readable s) (cut_back n hs).behind
+back_behind_readable s n hs r = subst (AllByRecursion (Readable s)) (sym (back_cut n hs).behind) (readable_behind s (back_place n hs).0 (back_place n hs).1 hs (back_placed n hs) r)
 
-pub readables : (s : Sheets) (a b : List Hunk) → All (Readable s) a → All (Readable s) b → Readables s (contracted s a b)
+pub readables : (s : Sheets) (a b : List Hunk) → AllByRecursion (Readable s) a → AllByRecursion (Readable s) b → Readables s (contracted s a b)
 readables s a b ra rb =
     let n = shared_front (side_lines s a) (side_lines s b) in
     let a₁ = readable_cut s n a _ refl ra in

@@ -1,5 +1,5 @@
 ghost use Rattle.std.specs.Prelude.{◌≡◌, ℕ, ◌+◌, ◌≤◌, ◌++◌, length};
-ghost use Rattle.std.specs.List.{AllByRecursion as All};
+ghost use Rattle.std.specs.List.{AllByRecursion};
 ghost use Rattle.rules.specs.Limits.{max_removed};
 ghost use Rattle.rules.specs.Contraction.{contracted};
 ghost use Rattle.hunks.specs.Lists.{held};
@@ -20,8 +20,8 @@ fn contract_front<T: ThreeSheets>(
     facing: &mut HunkList<MAX_FILLED>,
     removed: &mut HunkList<MAX_REMOVED>,
 )
-    requires ours { All (Readable (T.ThreeSheets.sheets three.now)) (held lead.old) }
-    requires theirs { All (Readable (T.ThreeSheets.sheets three.now)) (held facing.old) }
+    requires ours { AllByRecursion (Readable (T.ThreeSheets.sheets three.now)) (held lead.old) }
+    requires theirs { AllByRecursion (Readable (T.ThreeSheets.sheets three.now)) (held facing.old) }
     ensures lead { held lead.new ≡ (shared_front_cut (T.ThreeSheets.sheets three.now) (held lead.old) (held facing.old) (held lead.old)).behind }
     ensures facing { held facing.new ≡ (shared_front_cut (T.ThreeSheets.sheets three.now) (held lead.old) (held facing.old) (held facing.old)).behind }
     ensures removed { held removed.new ≡ (shared_front_cut (T.ThreeSheets.sheets three.now) (held lead.old) (held facing.old) (held lead.old)).ahead }
@@ -40,8 +40,8 @@ fn contract_back<T: ThreeSheets>(
     facing: &mut HunkList<MAX_FILLED>,
     removed: &mut HunkList<MAX_REMOVED>,
 )
-    requires ours { All (Readable (T.ThreeSheets.sheets three.now)) (held lead.old) }
-    requires theirs { All (Readable (T.ThreeSheets.sheets three.now)) (held facing.old) }
+    requires ours { AllByRecursion (Readable (T.ThreeSheets.sheets three.now)) (held lead.old) }
+    requires theirs { AllByRecursion (Readable (T.ThreeSheets.sheets three.now)) (held facing.old) }
     requires room { length (held removed.old) + length (held lead.old) ≤ max_removed }
     ensures lead { held lead.new ≡ (shared_back_cut (T.ThreeSheets.sheets three.now) (held lead.old) (held facing.old) (held lead.old)).ahead }
     ensures facing { held facing.new ≡ (shared_back_cut (T.ThreeSheets.sheets three.now) (held lead.old) (held facing.old) (held facing.old)).ahead }
@@ -64,8 +64,8 @@ pub fn zealously_contract_hunks<T: ThreeSheets>(
     facing: &mut HunkList<MAX_FILLED>,
     removed: &mut HunkList<MAX_REMOVED>,
 ) -> (usize, usize, usize)
-    requires ours { All (Readable (T.ThreeSheets.sheets three.now)) (held lead.old) }
-    requires theirs { All (Readable (T.ThreeSheets.sheets three.now)) (held facing.old) }
+    requires ours { AllByRecursion (Readable (T.ThreeSheets.sheets three.now)) (held lead.old) }
+    requires theirs { AllByRecursion (Readable (T.ThreeSheets.sheets three.now)) (held facing.old) }
     ensures lead { held lead.new ≡ (contracted (T.ThreeSheets.sheets three.now) (held lead.old) (held facing.old)).lead }
     ensures facing { held facing.new ≡ (contracted (T.ThreeSheets.sheets three.now) (held lead.old) (held facing.old)).facing }
     ensures removed { held removed.new ≡ removed_of (contracted (T.ThreeSheets.sheets three.now) (held lead.old) (held facing.old)) }

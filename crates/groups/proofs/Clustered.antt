@@ -1,7 +1,7 @@
 -- What is told of the first cluster: its range, its first hunk, and whether it is a group.
 use Rattle.std.proofs.Common.{◌≡◌, ℕ, suc, ◌+◌, ◌<◌, max, Bool, true, false, cond, T, List, [], ◌∷◌, ◌++◌, length, take, drop, Some, None, filter, sym, refl, ap, ◌∙◌, subst, ap₂, ⊎_elim, arith}
 use mathlib.Core.List.{Memᴰ}
-use Rattle.std.specs.List.{AllByRecursion as All, slice_get}
+use Rattle.std.specs.List.{AllByRecursion, slice_get}
 use Rattle.std.proofs.lemmas.List.{length-take-le}
 use Rattle.std.proofs.lemmas.Bool.{cases_Bool, cond_both}
 use Rattle.rules.specs.declared.hunk.Hunk.{Hunk}
@@ -28,18 +28,18 @@ pub their_run : (cs os : List Hunk) → KeptHunks cs os → Run Other 0 os
 their_run cs os k = runs Other (length k.0.ancestor) (length k.0.other) 0 0 os k.1.other
 
 -- What holds of each hunk of both sides holds of each member of the first cluster.
-pub members_all : (P : Hunk → Type 0) (cs os : List Hunk) → All P cs → All P os → (m n : ℕ) (t : Taken cs os m n) → All P (members t.cluster)
+pub members_all : (P : Hunk → Type 0) (cs os : List Hunk) → AllByRecursion P cs → AllByRecursion P os → (m n : ℕ) (t : Taken cs os m n) → AllByRecursion P (members t.cluster)
 members_all P cs os pc po m n t = (subst (AllMembers P) t.walked (clusters_all P (walk cs os) (walk_all P cs os pc po))).0
 
 -- Each member is of one of the two sides.
 abbrev pub OfSides : Hunk → Type 0
 OfSides h = Sided h.side
 
-run_sided : (s : Side) (n : ℕ) (hs : List Hunk) → Sided s → Run s n hs → All OfSides hs
+run_sided : (s : Side) (n : ℕ) (hs : List Hunk) → Sided s → Run s n hs → AllByRecursion OfSides hs
 run_sided s n [] p r = tt
 run_sided s n (h ∷ hs) p r = (subst Sided (sym r.0) p, run_sided s (suc h.before.end) hs p r.3)
 
-pub members_sided : (cs os : List Hunk) → KeptHunks cs os → (m n : ℕ) (t : Taken cs os m n) → All OfSides (members t.cluster)
+pub members_sided : (cs os : List Hunk) → KeptHunks cs os → (m n : ℕ) (t : Taken cs os m n) → AllByRecursion OfSides (members t.cluster)
 members_sided cs os kept = members_all OfSides cs os (run_sided Current 0 cs tt (our_run cs os kept)) (run_sided Other 0 os tt (their_run cs os kept))
 
 -- So its members are those of the two sides, in number and in ends.
@@ -54,7 +54,7 @@ parts_more h n e xs ys Current p a b = (omega arith, omega arith)
 parts_more h n e xs ys Other p a b = (omega arith, omega arith)
 parts_more h n e xs ys Ancestor p a b = absurd p
 
-parts : (ms : List Hunk) → All OfSides ms → Parts ms
+parts : (ms : List Hunk) → AllByRecursion OfSides ms → Parts ms
 parts [] p = record { number = refl; ends = refl }
 parts (h ∷ hs) p =
     let r = parts hs p.1 in

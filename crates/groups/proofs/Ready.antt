@@ -1,6 +1,6 @@
 -- What a caller that writes cluster by cluster needs of the next one: its sides filled, their length, their hunks readable, its range, its first hunk.
 use Rattle.std.proofs.Common.{◌≡◌, ℕ, zero, suc, ◌<◌, ◌≤◌, ltb, List, [], ◌∷◌, length, get_or, take, sym, ap, ◌∙◌, subst, ap₂, arith}
-use Rattle.std.specs.List.{AllByRecursion as All}
+use Rattle.std.specs.List.{AllByRecursion}
 use Rattle.std.proofs.ByRecursion.{All-append}
 use Rattle.std.proofs.lemmas.List.{length-take-le}
 use Rattle.std.proofs.lemmas.Bool.{cond_both, cond-true}
@@ -23,9 +23,9 @@ use Rattle.groups.proofs.Clustered.{our_run, their_run, members_all, to_is}
 use Rattle.groups.proofs.Filling.{filled_length}
 use Rattle.groups.proofs.Leaving.{order_take}
 
-stretch_readable : (s : Sheets) (a b : ℕ) → b ≤ length s.ancestor → All (Readable s) (stretch a b)
+stretch_readable : (s : Sheets) (a b : ℕ) → b ≤ length s.ancestor → AllByRecursion (Readable s) (stretch a b)
 stretch_readable s a b le =
-    cond_both (ltb a b) (record { before = record { start = a; end = b }; after = record { start = a; end = b }; side = Ancestor } ∷ []) [] (All (Readable s))
+    cond_both (ltb a b) (record { before = record { start = a; end = b }; after = record { start = a; end = b }; side = Ancestor } ∷ []) [] (AllByRecursion (Readable s))
     (λ _. (le, tt))
     (λ _. tt)
 
@@ -35,13 +35,13 @@ hunk_readable s h Current e b a = rw e a
 hunk_readable s h Other e b a = rw e a
 hunk_readable s h Ancestor e b a = rw e b
 
-pub order_readable : (s : Sheets) (side : Side) (x y : ℕ) (hs : List Hunk) → InOrder side (length s.ancestor) (length (sheet_of s side)) x y hs → All (Readable s) hs
+pub order_readable : (s : Sheets) (side : Side) (x y : ℕ) (hs : List Hunk) → InOrder side (length s.ancestor) (length (sheet_of s side)) x y hs → AllByRecursion (Readable s) hs
 order_readable s side x y [] r = tt
 order_readable s side x y (h ∷ hs) r = (hunk_readable s h side r.0 r.3 r.6, order_readable s side (suc h.before.end) h.after.end hs r.7)
 
 -- A side filled is readable.
 pub filled_readable : (s : Sheets) (side : Side) (x y a b : ℕ) (hs : List Hunk) → b ≤ length s.ancestor
-    → InOrder side (length s.ancestor) (length (sheet_of s side)) x y hs → All (Readable s) (filled a b hs)
+    → InOrder side (length s.ancestor) (length (sheet_of s side)) x y hs → AllByRecursion (Readable s) (filled a b hs)
 filled_readable s side x y a b [] le r = stretch_readable s a b le
 filled_readable s side x y a b (h ∷ hs) le r =
     let p = r.2 in
@@ -71,8 +71,8 @@ pub record Ready (s : Sheets) (cs os : List Hunk) (x : NextCluster) (k : Cluster
   pub theirs : filled x.range.start x.range.end (take x.other os) ≡ theirs_of k
   pub few_ours : length (ours_of k) ≤ max_filled
   pub few_theirs : length (theirs_of k) ≤ max_filled
-  pub ours_readable : All (Readable s) (ours_of k)
-  pub theirs_readable : All (Readable s) (theirs_of k)
+  pub ours_readable : AllByRecursion (Readable s) (ours_of k)
+  pub theirs_readable : AllByRecursion (Readable s) (theirs_of k)
   -- its first hunk is the first left of the side that leads
   pub side : x.lead ≡ k.first.side
   pub our_first : x.lead ≡ Current → (0 < length cs) × (get_or cs 0 no_hunk ≡ k.first)
@@ -87,7 +87,7 @@ head_of h hs (x ∷ xs) (suc m) e = (omega arith, cc)
 abbrev Forward : Hunk → Type 0
 Forward h = h.before.start ≤ h.before.end
 
-run_forward : (s : Side) (n : ℕ) (hs : List Hunk) → Run s n hs → All Forward hs
+run_forward : (s : Side) (n : ℕ) (hs : List Hunk) → Run s n hs → AllByRecursion Forward hs
 run_forward s n [] r = tt
 run_forward s n (h ∷ hs) r = (r.2, run_forward s (suc h.before.end) hs r.3)
 
@@ -97,7 +97,7 @@ module _ (s : Sheets) (side : Side) (hs ms : List Hunk) (m a b : ℕ) (is : ms �
   side_few : length (filled a b ms) ≤ max_filled
   side_few = filled_few a b ms (subst (λ (l : List Hunk). length l ≤ max_hunks) (sym is) (few_taken m hs le few))
 
-  side_readable : All (Readable s) (filled a b ms)
+  side_readable : AllByRecursion (Readable s) (filled a b ms)
   side_readable = filled_readable s side 0 0 a b ms in_range (subst (InOrder side (length s.ancestor) (length (sheet_of s side)) 0 0) (sym is) (order_take side (length s.ancestor) (length (sheet_of s side)) 0 0 m hs kept))
 
 pub ready : (s : Sheets) (cs os : List Hunk) → Kept s cs os → length cs ≤ max_hunks → length os ≤ max_hunks → (x : NextCluster) (n : Next cs os x) → Ready s cs os x n.takes.cluster

@@ -1,7 +1,7 @@
 -- How far a run has come, and what it has left once all its calls are made.
 use Rattle.std.proofs.Common.{◌≡◌, ℕ, suc, ◌+◌, ◌≤◌, true, List, [], ◌∷◌, map, length, drop, set, is_err, Some, None, Ok, Option, Result, sym, refl, ap, ◌∙◌, subst, ap₂, add-one, arith}
 use native.Mathlib.Nat.{le-max_left, le-max_right}
-use Rattle.std.specs.List.{AllByRecursion as All}
+use Rattle.std.specs.List.{AllByRecursion}
 use Rattle.std.proofs.lemmas.List.{drop_all}
 use Rattle.std.proofs.lemmas.Bool.{le-leb}
 use Rattle.rules.specs.declared.mode.Resolution.{Resolution}
@@ -70,7 +70,7 @@ module _ (s : Sheets) (cap : ℕ) where
   no_opening (Withdraw side) = tt
   no_opening (Render m l) = tt
 
-  none_opens : (xs : List Call) → All NoOpening (calls_in s cap xs)
+  none_opens : (xs : List Call) → AllByRecursion NoOpening (calls_in s cap xs)
   none_opens [] = tt
   none_opens (x ∷ xs) = (no_opening x, none_opens xs)
 

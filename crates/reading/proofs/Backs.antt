@@ -1,6 +1,6 @@
 -- Two cursors that go back over two lists of hunks, as long as their lines are equal.
 use Rattle.std.proofs.Common.{◌≡◌, ℕ, ◌+◌, ◌-◌, ◌<◌, ◌≤◌, true, false, List, [], ◌∷◌, ◌++◌, reverse, length, get_or, take, sym, refl, ap, ◌∙◌, ap₂, ⊎_elim, arith}
-use Rattle.std.specs.List.{AllByRecursion as All}
+use Rattle.std.specs.List.{AllByRecursion}
 use Rattle.std.proofs.lemmas.List.{append-nil, append_assoc, take_all, take_more, reverse-append, length-reverse, length-append, get_or_past}
 use Rattle.std.proofs.ByRecursion.{All-get_or}
 use Rattle.std.proofs.lemmas.Bool.{cases_lt}
@@ -28,7 +28,7 @@ inside hs i k pos le = ⊎_elim (λ h. h) (λ h. let e = ap hunk_size (get_or_pa
 pub upto_start : (s : Sheets) (hs : List Hunk) → upto s hs (length hs) 0 ≡ side_lines s hs
 upto_start s hs = append-nil (side_lines s (take (length hs) hs)) ∙ ap (side_lines s) (take_all (length hs) hs (omega arith))
 
-pub upto_skip : (s : Sheets) (hs : List Hunk) (i : ℕ) → All (Readable s) hs → 0 < i → i ≤ length hs → upto s hs i 0 ≡ upto s hs (i - 1) (hunk_size (get_or hs (i - 1) no_hunk))
+pub upto_skip : (s : Sheets) (hs : List Hunk) (i : ℕ) → AllByRecursion (Readable s) hs → 0 < i → i ≤ length hs → upto s hs i 0 ≡ upto s hs (i - 1) (hunk_size (get_or hs (i - 1) no_hunk))
 upto_skip s hs i r pos le =
     let h = get_or hs (i - 1) no_hunk in
     let lt : i - 1 < length hs = omega arith in
@@ -38,7 +38,7 @@ upto_skip s hs i r pos le =
     let e : side_lines s (take i hs) ≡ side_lines s (take (i - 1) hs) ++ (hunk_lines s h ++ []) = ap (side_lines s) t ∙ side_lines_append s (take (i - 1) hs) (h ∷ []) in
     append-nil (side_lines s (take i hs)) ∙ (e ∙ ap (λ (v : List Line). side_lines s (take (i - 1) hs) ++ v) (append-nil (hunk_lines s h) ∙ sym (take_all (hunk_size h) (hunk_lines s h) (omega arith))))
 
-pub upto_more : (s : Sheets) (hs : List Hunk) (i k : ℕ) → All (Readable s) hs → i < length hs → 0 < k → k ≤ hunk_size (get_or hs i no_hunk) → upto s hs i k ≡ upto s hs i (k - 1) ++ (get_or (hunk_lines s (get_or hs i no_hunk)) (k - 1) [] ∷ [])
+pub upto_more : (s : Sheets) (hs : List Hunk) (i k : ℕ) → AllByRecursion (Readable s) hs → i < length hs → 0 < k → k ≤ hunk_size (get_or hs i no_hunk) → upto s hs i k ≡ upto s hs i (k - 1) ++ (get_or (hunk_lines s (get_or hs i no_hunk)) (k - 1) [] ∷ [])
 upto_more s hs i k r lt pos le =
     let h = get_or hs i no_hunk in
     let ls = hunk_lines s h in
@@ -69,7 +69,7 @@ back_start s a b = record {
   right_line = omega arith;
 }
 
-module _ (s : Sheets) (a b : List Hunk) (i k j m n : ℕ) (ra : All (Readable s) a) (rb : All (Readable s) b) (f : Back s a b i k j m n) where
+module _ (s : Sheets) (a b : List Hunk) (i k j m n : ℕ) (ra : AllByRecursion (Readable s) a) (rb : AllByRecursion (Readable s) b) (f : Back s a b i k j m n) where
   pub back_skip_left : 0 < i → k ≡ 0 → Back s a b (i - 1) (hunk_size (get_or a (i - 1) no_hunk)) j m n × (behind_of s a b (i - 1) (hunk_size (get_or a (i - 1) no_hunk)) j m < behind_of s a b i k j m)
   back_skip_left pos z =
       let le = f.left_hunk in

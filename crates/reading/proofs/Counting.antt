@@ -1,6 +1,6 @@
 -- Numbers of lines.
 use Rattle.std.proofs.Common.{◌≡◌, ℕ, suc, ◌+◌, ◌<◌, ◌≤◌, Bool, true, false, cond, not, ◌&&◌, ◌||◌, eqb, ltb, List, [], ◌∷◌, ◌++◌, length, sym, refl, ap, ◌∙◌, ap₂, ⊎_elim, arith, length-append}
-use Rattle.std.specs.List.{AllByRecursion as All}
+use Rattle.std.specs.List.{AllByRecursion}
 use Rattle.std.proofs.lemmas.Bool.{eq-eqb, ne_eqb, cases_eq, and_left, or_left, lt-ltb}
 use Rattle.rules.specs.declared.hunk.Hunk.{Hunk}
 use Rattle.rules.specs.Contraction.{hunk_size}
@@ -14,11 +14,11 @@ use Rattle.rules.specs.Contraction.{Readable}
 use Rattle.reading.specs.Reading.{line_count, any_lines}
 use Rattle.reading.proofs.Reading.{whole, few_lines}
 
-pub counted : (s : Sheets) (hs : List Hunk) → All (Readable s) hs → length (side_lines s hs) ≡ line_count hs
+pub counted : (s : Sheets) (hs : List Hunk) → AllByRecursion (Readable s) hs → length (side_lines s hs) ≡ line_count hs
 counted s [] r = refl
 counted s (h ∷ hs) r = length-append (hunk_lines s h) (side_lines s hs) ∙ ap₂ ◌+◌ (whole s h r.0) (counted s hs r.1)
 
-pub few_counted : (s : Sheets) → AllFormed s → (hs : List Hunk) → All (Readable s) hs → length hs ≤ max_filled → line_count hs < 4294967296
+pub few_counted : (s : Sheets) → AllFormed s → (hs : List Hunk) → AllByRecursion (Readable s) hs → length hs ≤ max_filled → line_count hs < 4294967296
 few_counted s f hs r le =
     let e = counted s hs r in
     let b = few_lines s f hs r in
@@ -43,7 +43,7 @@ no_line_is : (ls rs : List Line) (n : ℕ) → length ls ≡ n → not (no_line 
 no_line_is [] rs n e = ap (λ v. ltb 0 v || not (no_line rs)) e
 no_line_is (l ∷ ls) rs n e = sym (or_left (ltb 0 n) (not (no_line rs)) (lt-ltb 0 n (omega arith)))
 
-pub lines_there : (s : Sheets) (hs : List Hunk) → All (Readable s) hs → any_lines hs ≡ not (no_line (side_lines s hs))
+pub lines_there : (s : Sheets) (hs : List Hunk) → AllByRecursion (Readable s) hs → any_lines hs ≡ not (no_line (side_lines s hs))
 lines_there s [] r = refl
 lines_there s (h ∷ hs) r = ap (λ v. ltb 0 (hunk_size h) || v) (lines_there s hs r.1) ∙ sym (no_line_is (hunk_lines s h) (side_lines s hs) (hunk_size h) (whole s h r.0))
 

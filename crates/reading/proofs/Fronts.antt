@@ -1,6 +1,6 @@
 -- Two cursors that go forward over two lists of hunks, as long as their lines are equal.
 use Rattle.std.proofs.Common.{◌≡◌, ℕ, suc, ◌+◌, ◌-◌, ◌<◌, ◌≤◌, true, false, List, [], ◌∷◌, length, get_or, drop, sym, refl, ap, ◌∙◌, ap₂, arith}
-use Rattle.std.specs.List.{AllByRecursion as All}
+use Rattle.std.specs.List.{AllByRecursion}
 use Rattle.std.proofs.lemmas.Bool.{cond-true, cond-false}
 use Rattle.rules.specs.declared.hunk.Hunk.{Hunk}
 use Rattle.rules.specs.Contraction.{hunk_size}
@@ -55,7 +55,7 @@ ahead_of s a b i k j m = (length (left s (drop i a) k) + (length a - i)) + (leng
 pub front_start : (s : Sheets) (a b : List Hunk) → Front s a b 0 0 0 0 0
 front_start s a b = run_same _ _ (side_lines s a) (side_lines s b) _ _ 0 (sym (left_start s a)) (sym (left_start s b)) (record { goal = omega arith; count = omega arith })
 
-module _ (s : Sheets) (a b : List Hunk) (i k j m n : ℕ) (ra : All (Readable s) a) (rb : All (Readable s) b) (f : Front s a b i k j m n) where
+module _ (s : Sheets) (a b : List Hunk) (i k j m n : ℕ) (ra : AllByRecursion (Readable s) a) (rb : AllByRecursion (Readable s) b) (f : Front s a b i k j m n) where
   pub front_skip_left : i < length a → hunk_size (get_or a i no_hunk) ≤ k → Front s a b (i + 1) 0 j m n × (ahead_of s a b (i + 1) 0 j m < ahead_of s a b i k j m)
   front_skip_left lt le =
       let e = left_skip s a i k ra lt le in

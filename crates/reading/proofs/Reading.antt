@@ -1,6 +1,6 @@
 -- Lines of a hunk, and of a list of hunks from a cursor on.
 use Rattle.std.proofs.Common.{◌≡◌, ℕ, zero, suc, ◌+◌, ◌-◌, ◌*◌, ◌<◌, ◌≤◌, List, [], ◌∷◌, ◌++◌, length, get_or, drop, Some, None, sym, refl, ap, ◌∙◌, arith, length-append, length-drop}
-use Rattle.std.specs.List.{AllByRecursion as All}
+use Rattle.std.specs.List.{AllByRecursion}
 use Rattle.std.proofs.lemmas.List.{at_drop_more, at_drop_all, length-take-le, get_or-take, get_or-drop, drop_all, drop_more}
 use Rattle.std.proofs.ByRecursion.{All-get_or}
 use Rattle.rules.specs.declared.hunk.Side.{Side}
@@ -53,7 +53,7 @@ pub left_start : (s : Sheets) (hs : List Hunk) → left s hs 0 ≡ side_lines s 
 left_start s [] = refl
 left_start s (h ∷ hs) = refl
 
-pub left_skip : (s : Sheets) (hs : List Hunk) (i k : ℕ) → All (Readable s) hs → i < length hs → hunk_size (get_or hs i no_hunk) ≤ k → left s (drop i hs) k ≡ left s (drop (i + 1) hs) 0
+pub left_skip : (s : Sheets) (hs : List Hunk) (i k : ℕ) → AllByRecursion (Readable s) hs → i < length hs → hunk_size (get_or hs i no_hunk) ≤ k → left s (drop i hs) k ≡ left s (drop (i + 1) hs) 0
 left_skip s hs i k r lt le =
     let h = get_or hs i no_hunk in
     let w = whole s h (All-get_or (Readable s) hs i no_hunk lt r) in
@@ -61,7 +61,7 @@ left_skip s hs i k r lt le =
     let d : drop k (hunk_lines s h) ≡ [] = drop_all k (hunk_lines s h) (omega arith) in
     e ∙ (ap (λ (v : List Line). v ++ side_lines s (drop (i + 1) hs)) d ∙ sym (left_start s (drop (i + 1) hs)))
 
-pub left_more : (s : Sheets) (hs : List Hunk) (i k : ℕ) → All (Readable s) hs → i < length hs → k < hunk_size (get_or hs i no_hunk) → left s (drop i hs) k ≡ get_or (hunk_lines s (get_or hs i no_hunk)) k [] ∷ left s (drop i hs) (k + 1)
+pub left_more : (s : Sheets) (hs : List Hunk) (i k : ℕ) → AllByRecursion (Readable s) hs → i < length hs → k < hunk_size (get_or hs i no_hunk) → left s (drop i hs) k ≡ get_or (hunk_lines s (get_or hs i no_hunk)) k [] ∷ left s (drop i hs) (k + 1)
 left_more s hs i k r lt le =
     let h = get_or hs i no_hunk in
     let w = whole s h (All-get_or (Readable s) hs i no_hunk lt r) in
@@ -78,7 +78,7 @@ few_of s f Current = f.current.1
 few_of s f Other = f.other.1
 few_of s f Ancestor = f.ancestor.1
 
-pub few_lines : (s : Sheets) → AllFormed s → (hs : List Hunk) → All (Readable s) hs → length (side_lines s hs) ≤ max_lines * length hs
+pub few_lines : (s : Sheets) → AllFormed s → (hs : List Hunk) → AllByRecursion (Readable s) hs → length (side_lines s hs) ≤ max_lines * length hs
 few_lines s f [] r = omega arith
 few_lines s f (h ∷ hs) r =
     let w = whole s h r.0 in

@@ -1,6 +1,6 @@
 -- The counts of a list of hunks, by the lines that the hunks stand for.
 use Rattle.std.specs.Prelude.{◌≡◌, not, List, length}
-use Rattle.std.specs.List.{AllByRecursion as All}
+use Rattle.std.specs.List.{AllByRecursion}
 use Rattle.rules.specs.declared.hunk.Hunk.{Hunk}
 use Rattle.rules.specs.Hunks.{Sheets, side_lines}
 use Rattle.rules.specs.Sides.{no_line}
@@ -13,4 +13,4 @@ pub record Counted (s : Sheets) (hs : List Hunk) : Type 0 where
   pub whether : any_lines hs ≡ not (no_line (side_lines s hs))
 
 abbrev pub CountsStand : Type 0
-CountsStand = (s : Sheets) (hs : List Hunk) → All (Readable s) hs → Counted s hs
+CountsStand = (s : Sheets) (hs : List Hunk) → AllByRecursion (Readable s) hs → Counted s hs

@@ -1,5 +1,5 @@
 ghost use Rattle.std.specs.Prelude.{◌≡◌, ℕ, ◌≤◌, not, length};
-ghost use Rattle.std.specs.List.{AllByRecursion as All};
+ghost use Rattle.std.specs.List.{AllByRecursion};
 ghost use Rattle.rules.specs.Limits.{max_filled};
 ghost use Rattle.rules.specs.Lines.{same_lines};
 ghost use Rattle.rules.specs.SharedLines.{shared_front, shared_back};
@@ -14,8 +14,8 @@ use sheet::line::same_line;
 /// How many leading lines two lists of hunks have in common: one cursor of hunk and line goes forward over each.
 pub fn shared_front<T: ThreeSheets>(three: &T, a: &[Hunk], b: &[Hunk]) -> u32
     requires few { length a.now ≤ max_filled }
-    requires ours { All (Readable (T.ThreeSheets.sheets three.now)) a.now }
-    requires theirs { All (Readable (T.ThreeSheets.sheets three.now)) b.now }
+    requires ours { AllByRecursion (Readable (T.ThreeSheets.sheets three.now)) a.now }
+    requires theirs { AllByRecursion (Readable (T.ThreeSheets.sheets three.now)) b.now }
     ensures { result ≡ shared_front (side_lines (T.ThreeSheets.sheets three.now) a.now) (side_lines (T.ThreeSheets.sheets three.now) b.now) }
 {
     let mut i = 0;
@@ -45,8 +45,8 @@ pub fn shared_front<T: ThreeSheets>(three: &T, a: &[Hunk], b: &[Hunk]) -> u32
 /// How many trailing lines two lists of hunks have in common: one cursor of hunk and line goes back over each.
 pub fn shared_back<T: ThreeSheets>(three: &T, a: &[Hunk], b: &[Hunk]) -> u32
     requires few { length a.now ≤ max_filled }
-    requires ours { All (Readable (T.ThreeSheets.sheets three.now)) a.now }
-    requires theirs { All (Readable (T.ThreeSheets.sheets three.now)) b.now }
+    requires ours { AllByRecursion (Readable (T.ThreeSheets.sheets three.now)) a.now }
+    requires theirs { AllByRecursion (Readable (T.ThreeSheets.sheets three.now)) b.now }
     ensures { result ≡ shared_back (side_lines (T.ThreeSheets.sheets three.now) a.now) (side_lines (T.ThreeSheets.sheets three.now) b.now) }
 {
     let mut i = a.len();
@@ -82,8 +82,8 @@ pub fn shared_back<T: ThreeSheets>(three: &T, a: &[Hunk], b: &[Hunk]) -> u32
 /// Whether the lines of two lists of hunks differ.
 pub fn hunks_differ<T: ThreeSheets>(three: &T, a: &[Hunk], b: &[Hunk]) -> bool
     requires few { (length a.now ≤ max_filled) × (length b.now ≤ max_filled) }
-    requires ours { All (Readable (T.ThreeSheets.sheets three.now)) a.now }
-    requires theirs { All (Readable (T.ThreeSheets.sheets three.now)) b.now }
+    requires ours { AllByRecursion (Readable (T.ThreeSheets.sheets three.now)) a.now }
+    requires theirs { AllByRecursion (Readable (T.ThreeSheets.sheets three.now)) b.now }
     ensures { result ≡ not (same_lines (side_lines (T.ThreeSheets.sheets three.now) a.now) (side_lines (T.ThreeSheets.sheets three.now) b.now)) }
 {
     let n = shared_front(three, a, b);

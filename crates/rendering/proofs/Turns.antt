@@ -1,6 +1,6 @@
 -- A turn of the loop over the clusters: the ancestor's lines ahead of the next cluster, the cluster, and what is left.
 use Rattle.std.proofs.Common.{◌≡◌, ℕ, ◌+◌, ◌<◌, ◌≤◌, Bool, true, false, cond, ◌&&◌, ◌||◌, List, [], ◌∷◌, ◌++◌, length, take, sym, refl, ap, ◌∙◌, subst, ap₂, arith}
-use Rattle.std.specs.List.{AllByRecursion as All}
+use Rattle.std.specs.List.{AllByRecursion}
 use Rattle.std.proofs.lemmas.List.{append-nil, take_rest}
 use Rattle.rules.specs.declared.hunk.Side.{Side}
 use Rattle.rules.specs.declared.hunk.Side.TheVariants.{Current, Other, Ancestor}
@@ -57,10 +57,10 @@ pub record Turn (m : modes.Conflict) (s : Sheets) (l : Labels) (since : ℕ) (cs
   pub within : x.range.end ≤ length s.ancestor
   pub few_ours : length (take x.current cs) ≤ max_hunks
   pub few_theirs : length (take x.other os) ≤ max_hunks
-  pub ours : All (Readable s) (take x.current cs)
-  pub ours_in : All (Readable s) (side_in x (take x.current cs))
-  pub theirs : All (Readable s) (take x.other os)
-  pub theirs_in : All (Readable s) (side_in x (take x.other os))
+  pub ours : AllByRecursion (Readable s) (take x.current cs)
+  pub ours_in : AllByRecursion (Readable s) (side_in x (take x.current cs))
+  pub theirs : AllByRecursion (Readable s) (take x.other os)
+  pub theirs_in : AllByRecursion (Readable s) (side_in x (take x.other os))
   pub ahead : Parts (steps_from m s l since (clusters (walk cs os))) (each common (between s.ancestor since x.range.start)) (next_steps m s l since x (take x.current cs) (take x.other os) ++ steps_from m s l x.range.end (clusters (walk (rest_of x.current cs) (rest_of x.other os))))
   pub next : Parts (next_steps m s l since x (take x.current cs) (take x.other os) ++ steps_from m s l x.range.end (clusters (walk (rest_of x.current cs) (rest_of x.other os)))) (next_steps m s l since x (take x.current cs) (take x.other os)) (steps_from m s l x.range.end (clusters (walk (rest_of x.current cs) (rest_of x.other os))))
   pub marked : any_marked m s (clusters (walk cs os)) ≡ next_marked m s x (take x.current cs) (take x.other os) || any_marked m s (clusters (walk (rest_of x.current cs) (rest_of x.other os)))
@@ -76,9 +76,9 @@ turn m s l since cs os kept few-cs few-os x n = record {
   few_ours = few_taken x.current cs n.takes.our_bound few-cs;
   few_theirs = few_taken x.other os n.takes.their_bound few-os;
   ours = order_readable s Current 0 0 (take x.current cs) t.current;
-  ours_in = subst (All (Readable s)) (sym r.ours) r.ours_readable;
+  ours_in = subst (AllByRecursion (Readable s)) (sym r.ours) r.ours_readable;
   theirs = order_readable s Other 0 0 (take x.other os) t.other;
-  theirs_in = subst (All (Readable s)) (sym r.theirs) r.theirs_readable;
+  theirs_in = subst (AllByRecursion (Readable s)) (sym r.theirs) r.theirs_readable;
   ahead = record {
     is =
         ap (steps_from m s l since) e.walked ∙

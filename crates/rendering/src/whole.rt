@@ -1,6 +1,6 @@
 //! The whole rendering, cluster by cluster, into any sink.
 ghost use Rattle.std.specs.Prelude.{◌≡◌, ℕ, ◌+◌, ◌-◌, ◌<◌, ◌≤◌, Bool, true, false, cond, not, List, [], ◌∷◌, ◌++◌, length};
-ghost use Rattle.std.specs.List.{AllByRecursion as All};
+ghost use Rattle.std.specs.List.{AllByRecursion};
 ghost use Rattle.writing.specs.States.{state, after, Room, Keeps};
 ghost use Rattle.rules.specs.Contraction.{Readable};
 ghost use Rattle.rules.specs.Limits.{max_hunks, max_marker_size};
@@ -45,8 +45,8 @@ pub fn write_next<T: ThreeSheets, S: Sink>(
     requires within { next.range.end ≤ length (T.ThreeSheets.sheets three.now).ancestor }
     requires size { size_of mode ≤ max_marker_size }
     requires few { (length current.now ≤ max_hunks) × (length other.now ≤ max_hunks) }
-    requires ours { (All (Readable (T.ThreeSheets.sheets three.now)) current.now) × (All (Readable (T.ThreeSheets.sheets three.now)) (side_in next current.now)) }
-    requires theirs { (All (Readable (T.ThreeSheets.sheets three.now)) other.now) × (All (Readable (T.ThreeSheets.sheets three.now)) (side_in next other.now)) }
+    requires ours { (AllByRecursion (Readable (T.ThreeSheets.sheets three.now)) current.now) × (AllByRecursion (Readable (T.ThreeSheets.sheets three.now)) (side_in next current.now)) }
+    requires theirs { (AllByRecursion (Readable (T.ThreeSheets.sheets three.now)) other.now) × (AllByRecursion (Readable (T.ThreeSheets.sheets three.now)) (side_in next other.now)) }
     requires room { Room (state (S.Sink.value sink.old) (S.Sink.taken sink.old) (S.Sink.announced sink.old) ajar) (next_steps mode (T.ThreeSheets.sheets three.now) (labels_in labels) since next current.now other.now) }
     ensures written { (state (S.Sink.value sink.new) (S.Sink.taken sink.new) (S.Sink.announced sink.new) result.0) ≡ after S.Sink.rule (state (S.Sink.value sink.old) (S.Sink.taken sink.old) (S.Sink.announced sink.old) ajar) (next_steps mode (T.ThreeSheets.sheets three.now) (labels_in labels.entry) since next current.now other.now) }
     ensures kept { Keeps (S.Sink.fresh sink.old) (S.Sink.fresh sink.new) (S.Sink.capacity sink.old) (S.Sink.capacity sink.new) (S.Sink.taken sink.old) (S.Sink.taken sink.new) (S.Sink.rest sink.old) (S.Sink.rest sink.new) }

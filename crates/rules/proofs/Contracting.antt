@@ -1,6 +1,6 @@
 -- What contraction makes of the lines of the two sides of a group.
 use Rattle.std.proofs.Common.{◌≡◌, ℕ, ◌-◌, Bool, true, false, not, ◌||◌, List, [], ◌∷◌, reverse, length, take, drop, sym, refl, ap, ◌∙◌, ap₂, ⊎_elim}
-use Rattle.std.specs.List.{AllByRecursion as All}
+use Rattle.std.specs.List.{AllByRecursion}
 use Rattle.std.proofs.lemmas.Bool.{true≢false, false≢true, or_parts, not-false, cases_Bool}
 use Rattle.rules.specs.declared.hunk.Hunk.{Hunk}
 use Rattle.rules.specs.Lines.{Line, same_lines}
@@ -19,7 +19,7 @@ pub record TrimmedLines (s : Sheets) (la lb : List Line) (c : Contracted) : Type
   pub facing : side_lines s c.facing ≡ before_end lb la
   pub back : side_lines s c.back ≡ at_end la lb
 
-trimmed_lines : (s : Sheets) (front a b : List Hunk) → All (Whole s) a → All (Whole s) b → TrimmedLines s (side_lines s a) (side_lines s b) (trimmed s front a b)
+trimmed_lines : (s : Sheets) (front a b : List Hunk) → AllByRecursion (Whole s) a → AllByRecursion (Whole s) b → TrimmedLines s (side_lines s a) (side_lines s b) (trimmed s front a b)
 trimmed_lines s front a b wa wb =
     let la = side_lines s a in
     let lb = side_lines s b in
@@ -34,7 +34,7 @@ pub record ContractedLines (s : Sheets) (xs ys : List Line) (c : Contracted) : T
   pub facing : side_lines s c.facing ≡ middle ys xs
   pub back : side_lines s c.back ≡ shared_end xs ys
 
-contracted_lines : (s : Sheets) (a b : List Hunk) → All (Whole s) a → All (Whole s) b → ContractedLines s (side_lines s a) (side_lines s b) (contracted s a b)
+contracted_lines : (s : Sheets) (a b : List Hunk) → AllByRecursion (Whole s) a → AllByRecursion (Whole s) b → ContractedLines s (side_lines s a) (side_lines s b) (contracted s a b)
 contracted_lines s a b wa wb =
     let xs = side_lines s a in
     let ys = side_lines s b in
@@ -53,7 +53,7 @@ pub record SidesLines (s : Sheets) (xs ys : List Line) (d : Sides) : Type 0 wher
   pub right : side_lines s d.right ≡ middle ys xs
   pub back : side_lines s d.back ≡ shared_end xs ys
 
-led_lines : (s : Sheets) (k : Cluster) (b : Bool) → All (Whole s) (ours_of k) → All (Whole s) (theirs_of k) → SidesLines s (ours_lines s k) (theirs_lines s k) (contracted_by s b k)
+led_lines : (s : Sheets) (k : Cluster) (b : Bool) → AllByRecursion (Whole s) (ours_of k) → AllByRecursion (Whole s) (theirs_of k) → SidesLines s (ours_lines s k) (theirs_lines s k) (contracted_by s b k)
 led_lines s k true wo wt =
     let c = contracted_lines s (ours_of k) (theirs_of k) wo wt in
     record { front = c.front; left = c.lead; right = c.facing; back = c.back }
@@ -63,7 +63,7 @@ led_lines s k false wo wt =
     let ys = theirs_lines s k in
     record { front = c.front ∙ start_sym ys xs; left = c.facing; right = c.lead; back = c.back ∙ end_sym ys xs }
 
-pub sides_lines : (s : Sheets) (k : Cluster) → All (Whole s) (ours_of k) → All (Whole s) (theirs_of k) → SidesLines s (ours_lines s k) (theirs_lines s k) (contracted_sides s k)
+pub sides_lines : (s : Sheets) (k : Cluster) → AllByRecursion (Whole s) (ours_of k) → AllByRecursion (Whole s) (theirs_of k) → SidesLines s (ours_lines s k) (theirs_lines s k) (contracted_sides s k)
 sides_lines s k wo wt = led_lines s k (is_current k.first.side) wo wt
 
 -- whether a line is left

@@ -1,7 +1,7 @@
 -- What a cut makes of the lines.
 use Rattle.std.proofs.Common.{◌≡◌, ℕ, ◌+◌, ◌-◌, ◌≤◌, Bool, true, false, cond, not, ◌&&◌, eqb, leb, ◌⊎◌, List, [], ◌∷◌, length, take, drop, sym, refl, ◌∙◌, inl, inr, append-nil, arith, length-drop, take-take, drop-drop}
 use lib.Seq.{take-nil, drop-nil, take-append-le, drop-append-le, take-append-add, drop-append-add}
-use Rattle.std.specs.List.{AllByRecursion as All}
+use Rattle.std.specs.List.{AllByRecursion}
 use Rattle.std.proofs.lemmas.List.{drop-take}
 use Rattle.std.proofs.lemmas.Bool.{leb-true, leb-false, eqb-true, and_parts, and_cases, not-false}
 use Rattle.rules.specs.declared.hunk.Hunk.{Hunk}
@@ -51,7 +51,7 @@ later_whole s h n le w =
 pub record Splits (s : Sheets) (n : ℕ) (hs : List Hunk) (c : Cut) : Type 0 where
   pub ahead_lines : side_lines s c.ahead ≡ take n (side_lines s hs)
   pub behind_lines : side_lines s c.behind ≡ drop n (side_lines s hs)
-  pub behind_whole : All (Whole s) c.behind
+  pub behind_whole : AllByRecursion (Whole s) c.behind
 
 none_splits : (s : Sheets) (n : ℕ) → Splits s n [] (record { ahead = []; behind = [] })
 none_splits s n = record { ahead_lines = sym (take-nil n); behind_lines = sym (drop-nil n); behind_whole = tt }
@@ -66,7 +66,7 @@ more_splits s n h hs c w le p =
     }
 
 -- a cut within the first hunk, or ahead of it
-here_splits : (s : Sheets) (n : ℕ) (h : Hunk) (hs : List Hunk) → Whole s h → All (Whole s) hs → n ≤ hunk_size h → Splits s n (h ∷ hs) (cut_here n h hs)
+here_splits : (s : Sheets) (n : ℕ) (h : Hunk) (hs : List Hunk) → Whole s h → AllByRecursion (Whole s) hs → n ≤ hunk_size h → Splits s n (h ∷ hs) (cut_here n h hs)
 here_splits s n h hs w ws le = go (eqb n 0) (eqb-true n 0)
   where
     go : (b : Bool) → (b ≡ true → n ≡ 0) → Splits s n (h ∷ hs) (cond b (record { ahead = []; behind = h ∷ hs }) (record { ahead = first_lines n h ∷ []; behind = later_lines n h ∷ hs }))
@@ -96,7 +96,7 @@ stays n h e = by (and_cases (leb (hunk_size h) n) (not (eqb n 0)) e)
     by (inl p) = let k = leb-false (hunk_size h) n p in omega arith
     by (inr p) = let k = eqb-true n 0 (not-false (eqb n 0) p) in omega arith
 
-pub front_splits : (s : Sheets) (n : ℕ) (hs : List Hunk) → All (Whole s) hs → Splits s n hs (cut_front n hs)
+pub front_splits : (s : Sheets) (n : ℕ) (hs : List Hunk) → AllByRecursion (Whole s) hs → Splits s n hs (cut_front n hs)
 front_splits s n [] w = none_splits s n
 front_splits s n (h ∷ hs) w =
     let rest = front_splits s (n - hunk_size h) hs w.1 in
@@ -104,7 +104,7 @@ front_splits s n (h ∷ hs) w =
     (λ e. more_splits s n h hs (cut_front (n - hunk_size h) hs) w.0 (leb-true (hunk_size h) n (and_parts (leb (hunk_size h) n) (not (eqb n 0)) e).0) rest)
     (λ e. here_splits s n h hs w.0 w.1 (stays n h e))
 
-pub back_splits : (s : Sheets) (n : ℕ) (hs : List Hunk) → All (Whole s) hs → Splits s n hs (cut_back n hs)
+pub back_splits : (s : Sheets) (n : ℕ) (hs : List Hunk) → AllByRecursion (Whole s) hs → Splits s n hs (cut_back n hs)
 back_splits s n [] w = none_splits s n
 back_splits s n (h ∷ hs) w =
     let rest = back_splits s (n - hunk_size h) hs w.1 in

@@ -1,7 +1,7 @@
 -- Contraction on hunks: whole hunks leave, and one hunk is cut in its place.
 use Rattle.std.proofs.Common.{◌≡◌, ℕ, ◌+◌, ◌-◌, ◌<◌, ◌≤◌, Bool, true, false, not, ◌&&◌, eqb, leb, ◌⊎◌, List, [], ◌∷◌, ◌++◌, length, sym, refl, ap, ◌∙◌, subst, ap₂, inl, inr, arith, length-append}
 use Rattle.std.proofs.lemmas.Bool.{leb-true, leb-false, eqb-true, and_parts, and_cases, not-true, not-false, cond_both, false≢true, true≢false}
-use Rattle.std.specs.List.{AllByRecursion as All}
+use Rattle.std.specs.List.{AllByRecursion}
 use Rattle.rules.specs.declared.hunk.Hunk.{Hunk}
 use Rattle.rules.specs.declared.hunk.Side.{Side}
 use Rattle.rules.specs.declared.hunk.Side.TheVariants.{Current, Other, Ancestor}
@@ -188,7 +188,7 @@ ends_told n hs r xs g e = by (leb n 0) refl
         let (h, ys, w, d) = r.some (omega arith) in
         ends_last h ys xs g d (sym w ∙ e)
 
-sizes_lines : (s : Sheets) (hs : List Hunk) → All (Whole s) hs → length (side_lines s hs) ≡ sizes hs
+sizes_lines : (s : Sheets) (hs : List Hunk) → AllByRecursion (Whole s) hs → length (side_lines s hs) ≡ sizes hs
 sizes_lines s [] w = refl
 sizes_lines s (h ∷ hs) w = length-append (hunk_lines s h) (side_lines s hs) ∙ ap₂ ◌+◌ w.0 (sizes_lines s hs w.1)
 
@@ -202,7 +202,7 @@ side_cuts n m hs p = record {
 }
 
 -- the two sides
-module _ (s : Sheets) (a b : List Hunk) (wa : All (Whole s) a) (wb : All (Whole s) b) where
+module _ (s : Sheets) (a b : List Hunk) (wa : AllByRecursion (Whole s) a) (wb : AllByRecursion (Whole s) b) where
   abbrev xs : List Line
   xs = side_lines s a
 
@@ -227,7 +227,7 @@ module _ (s : Sheets) (a b : List Hunk) (wa : All (Whole s) a) (wb : All (Whole 
       let e = sizes_lines s a wa in
       side_cuts n (length (side_lines s ra) - m) a (omega arith)
 
-  back_whole : All (Whole s) (contracted s a b).back
+  back_whole : AllByRecursion (Whole s) (contracted s a b).back
   back_whole = (back_splits s (length (side_lines s ra) - m) ra (front_splits s n a wa).behind_whole).behind_whole
 
   facing_cuts : FacingCuts s b (contracted s a b).front (contracted s a b).facing (contracted s a b).back
@@ -253,9 +253,9 @@ pub record Led (s : Sheets) (k : Cluster) (b : Bool) (d : Sides) : Type 0 where
   pub ours : b ≡ true → Cuts (ours_of k) d.front d.left d.back × FacingCuts s (theirs_of k) d.front d.right d.back
   pub theirs : b ≡ false → Cuts (theirs_of k) d.front d.right d.back × FacingCuts s (ours_of k) d.front d.left d.back
   pub begins : (h : Hunk) (ys : List Hunk) → d.back ≡ h ∷ ys → HasLine h
-  pub whole : All (Whole s) d.back
+  pub whole : AllByRecursion (Whole s) d.back
 
-pub led_cuts : (s : Sheets) (k : Cluster) (b : Bool) → All (Whole s) (ours_of k) → All (Whole s) (theirs_of k) → Led s k b (contracted_by s b k)
+pub led_cuts : (s : Sheets) (k : Cluster) (b : Bool) → AllByRecursion (Whole s) (ours_of k) → AllByRecursion (Whole s) (theirs_of k) → Led s k b (contracted_by s b k)
 led_cuts s k true wo wt = record {
   ours = λ _. (lead_cuts s (ours_of k) (theirs_of k) wo wt, facing_cuts s (ours_of k) (theirs_of k) wo wt);
   theirs = λ e. absurd (true≢false e);
@@ -270,7 +270,7 @@ led_cuts s k false wo wt = record {
 }
 
 -- a back without lines is none at all
-no_lines_there : (s : Sheets) (hs : List Hunk) → All (Whole s) hs → ((h : Hunk) (ys : List Hunk) → hs ≡ h ∷ ys → HasLine h) → side_lines s hs ≡ [] → hs ≡ []
+no_lines_there : (s : Sheets) (hs : List Hunk) → AllByRecursion (Whole s) hs → ((h : Hunk) (ys : List Hunk) → hs ≡ h ∷ ys → HasLine h) → side_lines s hs ≡ [] → hs ≡ []
 no_lines_there s [] w f e = refl
 no_lines_there s (h ∷ hs) w f e =
     let p : HasLine h = f h hs refl in

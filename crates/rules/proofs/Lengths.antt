@@ -2,7 +2,7 @@
 use Rattle.std.proofs.Common.{◌≡◌, ℕ, suc, ◌+◌, ◌*◌, ◌≤◌, Bool, true, false, cond, List, [], ◌∷◌, ◌++◌, length, drop, Some, None, Option, sym, refl, ap, ◌∙◌, subst, arith, length-append}
 use mathlib.Core.List.Memᴰ
 use lib.ListN.{length-replicate}
-use Rattle.std.specs.List.{AllByRecursion as All}
+use Rattle.std.specs.List.{AllByRecursion}
 use Rattle.std.proofs.lemmas.List.Elements.{filter-append}
 use Rattle.std.proofs.lemmas.Bool.{true≢false, false≢true, cond_both}
 use Rattle.rules.specs.declared.ending.Ending.{Ending}
@@ -280,7 +280,7 @@ module _ (s : Sheets) (l : Labels) (fits : LabelsFit l) where
   group_bytes ResolveWithUnion since k p fit = let e = union_bytes (contracted_sides s k) in let h = contracted_shares s k fit in let x = h.ours in let y = h.theirs in omega arith
 
   -- the ancestor's lines from a place on three times at most, each hunk's lines once, and a group's markers
-  steps_bytes : (m : modes.Conflict) (b : Side → ℕ) (since : ℕ) (ks : List Cluster) → SizeFits m → All (Fit s) ks → Woven b (all_members ks) → Cut ks → Low since (all_members ks)
+  steps_bytes : (m : modes.Conflict) (b : Side → ℕ) (since : ℕ) (ks : List Cluster) → SizeFits m → AllByRecursion (Fit s) ks → Woven b (all_members ks) → Cut ks → Low since (all_members ks)
       → step_bytes (steps_from m s l since ks) ≤ 3 * bytes_of (drop since s.ancestor) + hunk_bytes s (currents (all_members ks)) + hunk_bytes s (others (all_members ks)) + length (all_members ks) * 648
   steps_bytes m b since [] p fit w ct low = let e = each_bytes common (drop since s.ancestor) in omega arith
   steps_bytes m b since (k ∷ ks) p fit w ct low =

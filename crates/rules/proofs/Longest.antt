@@ -2,7 +2,7 @@
 use Rattle.std.proofs.Common.{◌≡◌, ℕ, suc, ◌-◌, ◌≤◌, Bool, true, false, cond, not, ◌&&◌, eqb, ltb, leb, List, [], ◌∷◌, ◌++◌, reverse, length, take, drop, sym, refl, ap, ◌∙◌, subst, arith, length-drop, take-append-drop, drop_at}
 use mathlib.Core.List.{reverse-append}
 use lib.ListN.{length-reverse}
-use Rattle.std.specs.List.{AllByRecursion as All}
+use Rattle.std.specs.List.{AllByRecursion}
 use Rattle.std.proofs.ByRecursion.{All-append}
 use Rattle.std.proofs.lemmas.Bool.{true≢false, cond_both}
 use Rattle.rules.specs.declared.hunk.Hunk.{Hunk}
@@ -71,26 +71,26 @@ rest_joins_other xs ys = ap (λ (e : List Line). middle ys xs ++ e) (end_sym xs 
 -- what holds of each hunk, and of each part of one that it holds of, holds of each hunk that contraction leaves or takes
 module _ (P : Hunk → Type 0) (part : (h : Hunk) (r : Span) → P h → P (reading h.side h r)) where
   abbrev Both : Cut → Type 0
-  Both c = All P c.ahead × All P c.behind
+  Both c = AllByRecursion P c.ahead × AllByRecursion P c.behind
 
-  here_all : (n : ℕ) (h : Hunk) (hs : List Hunk) → P h → All P hs → Both (cut_here n h hs)
+  here_all : (n : ℕ) (h : Hunk) (hs : List Hunk) → P h → AllByRecursion P hs → Both (cut_here n h hs)
   here_all n h hs p ps = cond_both (eqb n 0) (record { ahead = []; behind = h ∷ hs }) (record { ahead = first_lines n h ∷ []; behind = later_lines n h ∷ hs }) Both
       (λ _. (tt, (p, ps)))
       (λ _. ((part h _ p, tt), (part h _ p, ps)))
 
-  front_all : (n : ℕ) (hs : List Hunk) → All P hs → Both (cut_front n hs)
+  front_all : (n : ℕ) (hs : List Hunk) → AllByRecursion P hs → Both (cut_front n hs)
   front_all n [] p = (tt, tt)
   front_all n (h ∷ hs) p =
       let r = front_all (n - hunk_size h) hs p.1 in
       cond_both (leb (hunk_size h) n && not (eqb n 0)) (ahead_more h (cut_front (n - hunk_size h) hs)) (cut_here n h hs) Both (λ _. ((p.0, r.0), r.1)) (λ _. here_all n h hs p.0 p.1)
 
-  back_all : (n : ℕ) (hs : List Hunk) → All P hs → Both (cut_back n hs)
+  back_all : (n : ℕ) (hs : List Hunk) → AllByRecursion P hs → Both (cut_back n hs)
   back_all n [] p = (tt, tt)
   back_all n (h ∷ hs) p =
       let r = back_all (n - hunk_size h) hs p.1 in
       cond_both (leb (hunk_size h) n) (ahead_more h (cut_back (n - hunk_size h) hs)) (cut_here n h hs) Both (λ _. ((p.0, r.0), r.1)) (λ _. here_all n h hs p.0 p.1)
 
-  lead_all : (s : Sheets) (a b : List Hunk) → All P a → All P (contracted s a b).front × All P (contracted s a b).lead × All P (contracted s a b).back
+  lead_all : (s : Sheets) (a b : List Hunk) → AllByRecursion P a → AllByRecursion P (contracted s a b).front × AllByRecursion P (contracted s a b).lead × AllByRecursion P (contracted s a b).back
   lead_all s a b pa =
       let n = shared_front (side_lines s a) (side_lines s b) in
       let ca = front_all n a pa in
@@ -99,7 +99,7 @@ module _ (P : Hunk → Type 0) (part : (h : Hunk) (r : Span) → P h → P (read
       let ta = back_all (length la - shared_back la lb) (cut_front n a).behind ca.1 in
       (ca.0, ta.0, ta.1)
 
-  facing_all : (s : Sheets) (a b : List Hunk) → All P b → All P (contracted s a b).facing
+  facing_all : (s : Sheets) (a b : List Hunk) → AllByRecursion P b → AllByRecursion P (contracted s a b).facing
   facing_all s a b pb =
       let n = shared_front (side_lines s a) (side_lines s b) in
       let cb = front_all n b pb in
@@ -107,13 +107,13 @@ module _ (P : Hunk → Type 0) (part : (h : Hunk) (r : Span) → P h → P (read
       let lb = side_lines s (cut_front n b).behind in
       (back_all (length lb - shared_back la lb) (cut_front n b).behind cb.1).0
 
-  filled_all : (hs : List Hunk) (a b : ℕ) → ((i j : ℕ) → All P (stretch i j)) → All P hs → All P (filled a b hs)
+  filled_all : (hs : List Hunk) (a b : ℕ) → ((i j : ℕ) → AllByRecursion P (stretch i j)) → AllByRecursion P hs → AllByRecursion P (filled a b hs)
   filled_all [] a b st p = st a b
   filled_all (h ∷ hs) a b st p = All-append P (stretch a h.before.start) (h ∷ filled h.before.end b hs) (st a h.before.start) (p.0, filled_all hs h.before.end b st p.1)
 
-picked_all : (P : Hunk → Type 0) (f : Side → Bool) → ((h : Hunk) → f h.side ≡ true → P h) → (hs : List Hunk) → All P (picked f hs)
+picked_all : (P : Hunk → Type 0) (f : Side → Bool) → ((h : Hunk) → f h.side ≡ true → P h) → (hs : List Hunk) → AllByRecursion P (picked f hs)
 picked_all P f q [] = tt
-picked_all P f q (h ∷ hs) = let r = picked_all P f q hs in cond_both (f h.side) (h ∷ picked f hs) (picked f hs) (All P) (λ e. (q h e, r)) (λ _. r)
+picked_all P f q (h ∷ hs) = let r = picked_all P f q hs in cond_both (f h.side) (h ∷ picked f hs) (picked f hs) (AllByRecursion P) (λ e. (q h e, r)) (λ _. r)
 
 -- Ancestor hunks have one range
 reading_straight : (sd : Side) (h : Hunk) (r : Span) → Straight (reading sd h r)
@@ -124,11 +124,11 @@ reading_straight Ancestor h r e = refl
 part_straight : (h : Hunk) (r : Span) → Straight h → Straight (reading h.side h r)
 part_straight h r p = reading_straight h.side h r
 
-stretch_straight : (a b : ℕ) → All Straight (stretch a b)
+stretch_straight : (a b : ℕ) → AllByRecursion Straight (stretch a b)
 stretch_straight a b =
-    cond_both (ltb a b) (record { before = record { start = a; end = b }; after = record { start = a; end = b }; side = Ancestor } ∷ []) [] (All Straight) (λ _. (λ _. refl, tt)) (λ _. tt)
+    cond_both (ltb a b) (record { before = record { start = a; end = b }; after = record { start = a; end = b }; side = Ancestor } ∷ []) [] (AllByRecursion Straight) (λ _. (λ _. refl, tt)) (λ _. tt)
 
-side_straight : (f : Side → Bool) → f Ancestor ≡ false → (k : Cluster) → All Straight (side_of f k)
+side_straight : (f : Side → Bool) → f Ancestor ≡ false → (k : Cluster) → AllByRecursion Straight (side_of f k)
 side_straight f z k = filled_all Straight part_straight (picked f (members k)) (from k) (to k) stretch_straight (picked_all Straight f (λ h e a. absurd (true≢false (sym e ∙ ap f a ∙ z))) (members k))
 
 -- and the sides keep apart
@@ -145,11 +145,11 @@ none_faced Current = refl
 none_faced Other = refl
 none_faced Ancestor = refl
 
-stretch_side : (side : Side) (a b : ℕ) → All (NotFacing side) (stretch a b)
+stretch_side : (side : Side) (a b : ℕ) → AllByRecursion (NotFacing side) (stretch a b)
 stretch_side side a b =
-    cond_both (ltb a b) (record { before = record { start = a; end = b }; after = record { start = a; end = b }; side = Ancestor } ∷ []) [] (All (NotFacing side)) (λ _. (none_faced side, tt)) (λ _. tt)
+    cond_both (ltb a b) (record { before = record { start = a; end = b }; after = record { start = a; end = b }; side = Ancestor } ∷ []) [] (AllByRecursion (NotFacing side)) (λ _. (none_faced side, tt)) (λ _. tt)
 
-own_side : (f : Side → Bool) (side : Side) → ((t : Side) → f t ≡ true → opposite side t ≡ false) → (k : Cluster) → All (NotFacing side) (side_of f k)
+own_side : (f : Side → Bool) (side : Side) → ((t : Side) → f t ≡ true → opposite side t ≡ false) → (k : Cluster) → AllByRecursion (NotFacing side) (side_of f k)
 own_side f side q k = filled_all (NotFacing side) (part_side side) (picked f (members k)) (from k) (to k) (stretch_side side) (picked_all (NotFacing side) f (λ h e. q h.side e) (members k))
 
 current_own : (t : Side) → is_current t ≡ true → opposite Current t ≡ false
@@ -167,10 +167,10 @@ led_side true = Current
 led_side false = Other
 
 pub record Kinds (side : Side) (d : Sides) : Type 0 where
-  pub straight : All Straight d.front × All Straight d.left × All Straight d.right × All Straight d.back
-  pub led : All (NotFacing side) d.front × All (NotFacing side) d.back
-  pub ours_left : All (NotFacing Current) d.left
-  pub theirs_left : All (NotFacing Other) d.right
+  pub straight : AllByRecursion Straight d.front × AllByRecursion Straight d.left × AllByRecursion Straight d.right × AllByRecursion Straight d.back
+  pub led : AllByRecursion (NotFacing side) d.front × AllByRecursion (NotFacing side) d.back
+  pub ours_left : AllByRecursion (NotFacing Current) d.left
+  pub theirs_left : AllByRecursion (NotFacing Other) d.right
 
 kinds_by : (s : Sheets) (k : Cluster) (b : Bool) → Kinds (led_side b) (contracted_by s b k)
 kinds_by s k true =

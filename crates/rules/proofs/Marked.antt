@@ -1,7 +1,7 @@
 -- Markers begin lines, and endings close open ones.
 use Rattle.std.proofs.Common.{◌≡◌, ℕ, Bool, true, false, cond, not, ◌&&◌, eqb, List, [], ◌∷◌, ◌++◌, length, get_or, drop, replicate, Some, None, Option, sym, refl, ap, ◌∙◌, subst, subst₂, append_assoc, append-nil, arith, length-append}
 use lib.Seq.{get_or_at}
-use Rattle.std.specs.List.{AllByRecursion as All}
+use Rattle.std.specs.List.{AllByRecursion}
 use Rattle.std.proofs.ByRecursion.{All-append}
 use Rattle.std.proofs.lemmas.Bool.{true≢false, false≢true, cond_both, not-true, eqb-false, ne_eqb}
 use Rattle.rules.specs.declared.ending.Ending.{Ending}
@@ -154,7 +154,7 @@ module _ (st : ConflictStyle) (n : ℕ) (l : Labels) (s : Sheets) where
   both true b es = refl
   both false b es = refl
 
-  steps_good : (since : ℕ) (ks : List Cluster) → All (Fit s) ks → Good st n l (marker_endings st s since ks) out (steps_from (Keep st n) s l since ks) out
+  steps_good : (since : ℕ) (ks : List Cluster) → AllByRecursion (Fit s) ks → Good st n l (marker_endings st s since ks) out (steps_from (Keep st n) s l since ks) out
   steps_good since [] fit = commons st n l (drop since s.ancestor)
   steps_good since (k ∷ ks) fit =
       let ls = between s.ancestor since (from k) in
@@ -188,29 +188,29 @@ abbrev Plain : Step → Type 0
 Plain (put c) = is_ending c.kind ≡ false
 Plain (close e) = Unit {0}
 
-each_plain : (k : Kind) → is_ending k ≡ false → (ls : List Line) → All Plain (each k ls)
+each_plain : (k : Kind) → is_ending k ≡ false → (ls : List Line) → AllByRecursion Plain (each k ls)
 each_plain k e [] = tt
 each_plain k e (l ∷ ls) = (e, each_plain k e ls)
 
-marker_plain : (c n : ℕ) (label : Option (List ℕ)) (e : Ending) → All Plain (marker_steps c n label e)
+marker_plain : (c n : ℕ) (label : Option (List ℕ)) (e : Ending) → AllByRecursion Plain (marker_steps c n label e)
 marker_plain c n None e = (tt, (refl, (refl, tt)))
 marker_plain c n (Some y) e = (tt, (refl, (refl, (refl, (refl, tt)))))
 
-all_two : (a b : List Step) → All Plain a → All Plain b → All Plain (a ++ b)
+all_two : (a b : List Step) → AllByRecursion Plain a → AllByRecursion Plain b → AllByRecursion Plain (a ++ b)
 all_two a b p q = All-append Plain a b p q
 
-all_either : (b : Bool) (x y : List Step) → All Plain x → All Plain y → All Plain (cond b x y)
+all_either : (b : Bool) (x y : List Step) → AllByRecursion Plain x → AllByRecursion Plain y → AllByRecursion Plain (cond b x y)
 all_either true x y p q = p
 all_either false x y p q = q
 
 module _ (s : Sheets) (l : Labels) where
-  base_plain : (st : ConflictStyle) (n : ℕ) (k : Cluster) → All Plain (base_steps st s n l.ancestor (from k) (to k))
+  base_plain : (st : ConflictStyle) (n : ℕ) (k : Cluster) → AllByRecursion Plain (base_steps st s n l.ancestor (from k) (to k))
   base_plain st n k =
       let x = base_ending s (from k) (to k) in
       all_either (with_base st) (marker_steps 124 n l.ancestor x ++ each base (base_lines s k)) []
       (all_two (marker_steps 124 n l.ancestor x) (each base (base_lines s k)) (marker_plain 124 n l.ancestor x) (each_plain base refl (base_lines s k))) tt
 
-  block_plain : (st : ConflictStyle) (n : ℕ) (k : Cluster) (d : Sides) (x : Ending) → All Plain (block_steps st s n l x (from k) (to k) d.left d.right)
+  block_plain : (st : ConflictStyle) (n : ℕ) (k : Cluster) (d : Sides) (x : Ending) → AllByRecursion Plain (block_steps st s n l x (from k) (to k) d.left d.right)
   block_plain st n k d x =
       let m60 = marker_steps 60 n l.current x in
       let m61 = marker_steps 61 n None x in
@@ -224,12 +224,12 @@ module _ (s : Sheets) (l : Labels) where
       (all_two m61 (et ++ m62) (marker_plain 61 n None x)
       (all_two et m62 (each_plain theirs refl (side_lines s d.right)) (marker_plain 62 n l.other x)))))
 
-  agreed_plain : (st : ConflictStyle) (d : Sides) → All Plain (agreed_steps st s d.left)
+  agreed_plain : (st : ConflictStyle) (d : Sides) → AllByRecursion Plain (agreed_steps st s d.left)
   agreed_plain Merge d = tt
   agreed_plain Diff3 d = each_plain common refl (side_lines s d.left)
   agreed_plain ZealousDiff3 d = tt
 
-  keep_plain : (st : ConflictStyle) (n since : ℕ) (k : Cluster) (d : Sides) → All Plain (keep_steps st s n l since (from k) (to k) d)
+  keep_plain : (st : ConflictStyle) (n since : ℕ) (k : Cluster) (d : Sides) → AllByRecursion Plain (keep_steps st s n l since (from k) (to k) d)
   keep_plain st n since k d =
       let x = marker_ending s since (from k) d.front d.left in
       let blk = block_steps st s n l x (from k) (to k) d.left d.right in
@@ -239,11 +239,11 @@ module _ (s : Sheets) (l : Labels) where
       all_two (each common (side_lines s d.front)) (mid ++ eb) (each_plain common refl (side_lines s d.front))
       (all_two mid eb (all_either (blocked st s d.left d.right) blk agr (block_plain st n k d x) (agreed_plain st d)) (each_plain common refl (side_lines s d.back)))
 
-  close_plain : (d : Sides) (hs : List Hunk) → All Plain (back_close s d.right hs)
+  close_plain : (d : Sides) (hs : List Hunk) → AllByRecursion Plain (back_close s d.right hs)
   close_plain d [] = tt
   close_plain d (h ∷ hs) = (tt, tt)
 
-  union_plain : (d : Sides) → All Plain (union_steps s d)
+  union_plain : (d : Sides) → AllByRecursion Plain (union_steps s d)
   union_plain d =
       let eo = each ours (side_lines s d.left) in
       let et = each theirs (side_lines s d.right) in
@@ -258,13 +258,13 @@ module _ (s : Sheets) (l : Labels) where
       (all_either (line_left s d.left d.right) lft [] (tt, all_two eo (close cl ∷ et) (each_plain ours refl (side_lines s d.left)) (tt, each_plain theirs refl (side_lines s d.right))) tt)
       (all_two bc eb (close_plain d d.back) (each_plain common refl (side_lines s d.back))))
 
-  group_plain : (m : modes.Conflict) (since : ℕ) (k : Cluster) → All Plain (group_steps m s l since k)
+  group_plain : (m : modes.Conflict) (since : ℕ) (k : Cluster) → AllByRecursion Plain (group_steps m s l since k)
   group_plain (Keep st n) since k = keep_plain st n since k (sides_in st s k)
   group_plain ResolveWithOurs since k = each_plain common refl (side_lines s (ours_of k))
   group_plain ResolveWithTheirs since k = each_plain common refl (side_lines s (theirs_of k))
   group_plain ResolveWithUnion since k = union_plain (contracted_sides s k)
 
-  steps_plain : (m : modes.Conflict) (since : ℕ) (ks : List Cluster) → All Plain (steps_from m s l since ks)
+  steps_plain : (m : modes.Conflict) (since : ℕ) (ks : List Cluster) → AllByRecursion Plain (steps_from m s l since ks)
   steps_plain m since [] = each_plain common refl (drop since s.ancestor)
   steps_plain m since (k ∷ ks) =
       let ls = between s.ancestor since (from k) in
@@ -312,7 +312,7 @@ says_more past x cs here later (p ∷ ps) qs c e k =
 not_ending : (k : Kind) → is_ending k ≡ false → k ≡ ending → ⊥
 not_ending k e q = true≢false (sym (ap is_ending q) ∙ e)
 
-says : (past : List ℕ) (o : Bool) (ss : List Step) → All Plain ss → (o ≡ true → OpenLine past) → Says past (pieces_of o ss)
+says : (past : List ℕ) (o : Bool) (ss : List Step) → AllByRecursion Plain ss → (o ≡ true → OpenLine past) → Says past (pieces_of o ss)
 says past o [] p f = says_nil past
 says past o (put c ∷ ss) p f = says_more past c (pieces_of (left_open o c.bytes) ss) (λ k. absurd (not_ending c.kind p.0 k)) (says (past ++ c.bytes) (left_open o c.bytes) ss p.1 (open_more past o c.bytes f))
 says past true (close x ∷ ss) p f = says_more past (record { kind = ending; bytes = ending_bytes x }) (pieces_of false ss) (λ k. (f refl, (x, refl))) (says (past ++ ending_bytes x) false ss p.1 (λ e. absurd (false≢true e)))
@@ -329,33 +329,33 @@ abbrev Bare : Step → Type 0
 Bare (put c) = is_marker c.kind ≡ false
 Bare (close nl) = Unit {0}
 
-each_bare : (k : Kind) → is_marker k ≡ false → (ls : List Line) → All Bare (each k ls)
+each_bare : (k : Kind) → is_marker k ≡ false → (ls : List Line) → AllByRecursion Bare (each k ls)
 each_bare k e [] = tt
 each_bare k e (l ∷ ls) = (e, each_bare k e ls)
 
-bare_pieces : (o : Bool) (ss : List Step) → All Bare ss → All Unmarked (pieces_of o ss)
+bare_pieces : (o : Bool) (ss : List Step) → AllByRecursion Bare ss → AllByRecursion Unmarked (pieces_of o ss)
 bare_pieces o [] p = tt
 bare_pieces o (put c ∷ ss) p = (p.0, bare_pieces (left_open o c.bytes) ss p.1)
-bare_pieces o (close nl ∷ ss) p = let r = bare_pieces false ss p.1 in cond_both o (record { kind = ending; bytes = ending_bytes nl } ∷ pieces_of false ss) (pieces_of false ss) (All Unmarked) (λ _. (refl, r)) (λ _. r)
+bare_pieces o (close nl ∷ ss) p = let r = bare_pieces false ss p.1 in cond_both o (record { kind = ending; bytes = ending_bytes nl } ∷ pieces_of false ss) (pieces_of false ss) (AllByRecursion Unmarked) (λ _. (refl, r)) (λ _. r)
 
-module _ (m : modes.Conflict) (s : Sheets) (l : Labels) (bare : (since : ℕ) (k : Cluster) → All Bare (group_steps m s l since k)) where
-  steps_bare : (since : ℕ) (ks : List Cluster) → All Bare (steps_from m s l since ks)
+module _ (m : modes.Conflict) (s : Sheets) (l : Labels) (bare : (since : ℕ) (k : Cluster) → AllByRecursion Bare (group_steps m s l since k)) where
+  steps_bare : (since : ℕ) (ks : List Cluster) → AllByRecursion Bare (steps_from m s l since ks)
   steps_bare since [] = each_bare common refl (drop since s.ancestor)
   steps_bare since (k ∷ ks) =
       let ls = between s.ancestor since (from k) in
       let c = cluster_steps m s l since k in
       let r = steps_from m s l (to k) ks in
       All-append Bare (each common ls) (c ++ r) (each_bare common refl ls)
-      (All-append Bare c r (cond_both (is_group k) (group_steps m s l since k) (each common (hunk_lines s k.first)) (All Bare) (λ _. bare since k) (λ _. each_bare common refl (hunk_lines s k.first))) (steps_bare (to k) ks))
+      (All-append Bare c r (cond_both (is_group k) (group_steps m s l since k) (each common (hunk_lines s k.first)) (AllByRecursion Bare) (λ _. bare since k) (λ _. each_bare common refl (hunk_lines s k.first))) (steps_bare (to k) ks))
 
-  unmarked : (cs os : List Hunk) → All Unmarked (rendering m s l cs os)
+  unmarked : (cs os : List Hunk) → AllByRecursion Unmarked (rendering m s l cs os)
   unmarked cs os = bare_pieces false (steps_from m s l 0 (clusters (walk cs os))) (steps_bare 0 (clusters (walk cs os)))
 
-close_bare : (s : Sheets) (d : Sides) (hs : List Hunk) → All Bare (back_close s d.right hs)
+close_bare : (s : Sheets) (d : Sides) (hs : List Hunk) → AllByRecursion Bare (back_close s d.right hs)
 close_bare s d [] = tt
 close_bare s d (h ∷ hs) = (tt, tt)
 
-union_bare : (s : Sheets) (d : Sides) → All Bare (union_steps s d)
+union_bare : (s : Sheets) (d : Sides) → AllByRecursion Bare (union_steps s d)
 union_bare s d =
     let eo = each ours (side_lines s d.left) in
     let et = each theirs (side_lines s d.right) in
@@ -367,7 +367,7 @@ union_bare s d =
     let eb = each common (side_lines s d.back) in
     All-append Bare (each common (side_lines s d.front)) (mid ++ (bc ++ eb)) (each_bare common refl (side_lines s d.front))
     (All-append Bare mid (bc ++ eb)
-    (cond_both (line_left s d.left d.right) lft [] (All Bare) (λ _. (tt, All-append Bare eo (close cl ∷ et) (each_bare ours refl (side_lines s d.left)) (tt, each_bare theirs refl (side_lines s d.right)))) (λ _. tt))
+    (cond_both (line_left s d.left d.right) lft [] (AllByRecursion Bare) (λ _. (tt, All-append Bare eo (close cl ∷ et) (each_bare ours refl (side_lines s d.left)) (tt, each_bare theirs refl (side_lines s d.right)))) (λ _. tt))
     (All-append Bare bc eb (close_bare s d d.back) (each_bare common refl (side_lines s d.back))))
 
 -- an open line, by its last byte

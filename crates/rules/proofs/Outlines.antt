@@ -2,7 +2,7 @@
 use Rattle.std.proofs.Common.{◌≡◌, ℕ, Bool, true, false, cond, not, List, [], ◌∷◌, ◌++◌, map, drop, Some, None, Option, sym, refl, ap, ◌∙◌, ap₂, append_assoc, append-nil}
 use mathlib.Core.List.{map-append}
 use lib.Seq.{append_snoc}
-use Rattle.std.specs.List.{AllByRecursion as All}
+use Rattle.std.specs.List.{AllByRecursion}
 use Rattle.rules.specs.declared.ending.Ending.{Ending}
 use Rattle.rules.specs.declared.hunk.Hunk.{Hunk}
 use Rattle.rules.specs.declared.mode.Conflict.TheVariants.{Keep}
@@ -206,7 +206,7 @@ module _ (st : ConflictStyle) (l : Labels) (s : Sheets) (n : ℕ) where
       (λ rest. keep_lead st l s n k since (sides_in st s k) rest ∙ ap (λ (is : List Item). is ++ read_steps st l start rest) (group_is st l s n k fit))
       (common_leads st l start (hunk_lines s k.first))
 
-  steps_lead : (since : ℕ) (ks : List Cluster) → All (Fit s) ks → Leads st l start (steps_from (Keep st n) s l since ks) (items st s since ks) start
+  steps_lead : (since : ℕ) (ks : List Cluster) → AllByRecursion (Fit s) ks → Leads st l start (steps_from (Keep st n) s l since ks) (items st s since ks) start
   steps_lead since [] p = common_leads st l start (drop since s.ancestor)
   steps_lead since (k ∷ ks) p =
       let ls = between s.ancestor since (from k) in

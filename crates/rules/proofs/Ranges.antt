@@ -1,7 +1,7 @@
 -- The ranges of the clusters: least start, greatest end, and apart from each other.
 use Rattle.std.proofs.Common.{◌≡◌, ℕ, ◌<◌, ◌≤◌, List, [], ◌∷◌, length, sym, refl, subst, ⊎_elim, arith}
 use mathlib.Core.List.{Memᴰ}
-use Rattle.std.specs.List.{AllByRecursion as All}
+use Rattle.std.specs.List.{AllByRecursion}
 use Rattle.std.proofs.lemmas.Bool.{cases_lt}
 use Rattle.rules.specs.declared.hunk.Hunk.{Hunk}
 use Rattle.rules.specs.declared.hunk.Side.{Side}
@@ -35,7 +35,7 @@ range b k w = record {
   last_end = greatest k.first k.more;
 }
 
-all_ranges : (b : Side → ℕ) (ks : List Cluster) → Woven b (all_members ks) → All Range ks
+all_ranges : (b : Side → ℕ) (ks : List Cluster) → Woven b (all_members ks) → AllByRecursion Range ks
 all_ranges b [] w = tt
 all_ranges b (k ∷ ks) w = let (p, q) = woven_parts b (members k) (all_members ks) w in (range b k p, all_ranges (after b (members k)) ks q)
 

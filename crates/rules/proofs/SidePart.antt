@@ -1,6 +1,6 @@
 -- A rendering that keeps conflicts, every block replaced by the part of one side, has the lines of that side's rendering.
 use Rattle.std.proofs.Common.{◌≡◌, ℕ, Bool, true, false, cond, not, List, [], ◌∷◌, ◌++◌, drop, sym, refl, ◌∙◌, ap₂, append-nil}
-use Rattle.std.specs.List.{AllByRecursion as All}
+use Rattle.std.specs.List.{AllByRecursion}
 use Rattle.std.proofs.ByRecursion.{All-weaker}
 use Rattle.rules.specs.declared.hunk.Hunk.{Hunk}
 use Rattle.rules.specs.declared.mode.Conflict as modes
@@ -100,7 +100,7 @@ module _ (f g : Kind → Bool) (fc : f common ≡ true) (gc : g common ≡ true)
   either_alike true x y x' y' p q = p
   either_alike false x y x' y' p q = q
 
-  pub steps_alike : (since : ℕ) (ks : List Cluster) → All Alike ks → step_lines f (steps_from m s l since ks) ≡ step_lines g (steps_from m' s l' since ks)
+  pub steps_alike : (since : ℕ) (ks : List Cluster) → AllByRecursion Alike ks → step_lines f (steps_from m s l since ks) ≡ step_lines g (steps_from m' s l' since ks)
   steps_alike since [] p = each_alike (drop since s.ancestor)
   steps_alike since (k ∷ ks) p =
       let ec = each common (between s.ancestor since (from k)) in

@@ -1,6 +1,6 @@
 -- What the outline of a rendering that keeps conflicts spells.
 use Rattle.std.proofs.Common.{◌≡◌, ℕ, Bool, true, false, cond, not, ◌&&◌, ◌||◌, List, [], ◌∷◌, ◌++◌, map, drop, sym, refl, ap, ◌∙◌, ap₂, append_assoc, append-nil}
-use Rattle.std.specs.List.{AllByRecursion as All}
+use Rattle.std.specs.List.{AllByRecursion}
 use Rattle.std.proofs.ByRecursion.{All-weaker}
 use Rattle.rules.specs.declared.hunk.Hunk.{Hunk}
 use Rattle.rules.specs.declared.mode.Conflict as modes
@@ -45,7 +45,7 @@ module _ (f : Item → List Line) (fl : (x : Line) → f (line x) ≡ x ∷ []) 
   either_spelled false u v x y p q = q
 
   -- cluster by cluster
-  pub items_spelled : (st : ConflictStyle) (g : Cluster → List Line) (s : Sheets) (since : ℕ) (ks : List Cluster) → All (λ (k : Cluster). spelled f (group_items st s k) ≡ g k) ks → spelled f (items st s since ks) ≡ with_groups g s since ks
+  pub items_spelled : (st : ConflictStyle) (g : Cluster → List Line) (s : Sheets) (since : ℕ) (ks : List Cluster) → AllByRecursion (λ (k : Cluster). spelled f (group_items st s k) ≡ g k) ks → spelled f (items st s since ks) ≡ with_groups g s since ks
   items_spelled st g s since [] p = spelled_lines (drop since s.ancestor)
   items_spelled st g s since (k ∷ ks) p =
       let ls = between s.ancestor since (from k) in
@@ -74,7 +74,7 @@ theirs_group : (st : ConflictStyle) (xs b ys : List Line) (d : Bool) → same_li
 theirs_group st xs b ys true q = spelled_lines theirs_part (λ _. refl) xs ∙ same_lines_true xs ys q
 theirs_group st xs b ys false q = theirs_block (contracts st) xs b ys
 
-pub all_given : {X : Type 0} (P : X → Type 0) (xs : List X) → ((x : X) → P x) → All P xs
+pub all_given : {X : Type 0} (P : X → Type 0) (xs : List X) → ((x : X) → P x) → AllByRecursion P xs
 all_given P [] f = tt
 all_given P (x ∷ xs) f = (f x, all_given P xs f)
 
@@ -106,7 +106,7 @@ module _ (m : modes.Conflict) (s : Sheets) (l : Labels) (g : Cluster → List Li
   abbrev pub Written : Cluster → Type 0
   Written k = (since : ℕ) → step_lines reads_as_line (group_steps m s l since k) ≡ g k
 
-  steps_written : (since : ℕ) (ks : List Cluster) → All Written ks → step_lines reads_as_line (steps_from m s l since ks) ≡ with_groups g s since ks
+  steps_written : (since : ℕ) (ks : List Cluster) → AllByRecursion Written ks → step_lines reads_as_line (steps_from m s l since ks) ≡ with_groups g s since ks
   steps_written since [] p = each_kept reads_as_line common (drop since s.ancestor) refl
   steps_written since (k ∷ ks) p =
       let ls = between s.ancestor since (from k) in
@@ -117,7 +117,7 @@ module _ (m : modes.Conflict) (s : Sheets) (l : Labels) (g : Cluster → List Li
       (either_steps reads_as_line refl refl (is_group k) (group_steps m s l since k) (each common (hunk_lines s k.first)) (g k) (hunk_lines s k.first) (p.0 since) (each_kept reads_as_line common (hunk_lines s k.first) refl))
       (steps_written (to k) ks p.1))
 
-  pub written : (cs os : List Hunk) → All Written (clusters (walk cs os)) → all_lines (rendering m s l cs os) ≡ with_groups g s 0 (clusters (walk cs os))
+  pub written : (cs os : List Hunk) → AllByRecursion Written (clusters (walk cs os)) → all_lines (rendering m s l cs os) ≡ with_groups g s 0 (clusters (walk cs os))
   written cs os p = pieces_lines reads_as_line refl false (steps_from m s l 0 (clusters (walk cs os))) ∙ steps_written 0 (clusters (walk cs os)) p
 
 module _ (st : ConflictStyle) (s : Sheets) (n : ℕ) (l : Labels) where

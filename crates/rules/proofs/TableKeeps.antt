@@ -1,7 +1,7 @@
 -- What a table keeps through every run, and the counts that it has.
 use Rattle.std.proofs.Common.{◌≡◌, ℕ, zero, suc, ◌-◌, ◌<◌, ◌≤◌, true, ◌&&◌, leb, List, [], ◌∷◌, ◌++◌, length, take, Some, None, Option, sym, refl, ap, ◌∙◌, subst, subst₂, arith, length-append, length-take}
 use Rattle.std.proofs.ByRecursion.{All-push, All-take}
-use Rattle.std.specs.List.{AllByRecursion as All}
+use Rattle.std.specs.List.{AllByRecursion}
 use Rattle.std.proofs.lemmas.Bool.{false≢true, leb-true, le-leb, and_parts, and_from}
 use Rattle.rules.specs.declared.hunk.Hunk.{Hunk}
 use Rattle.rules.specs.declared.hunk.Side.{Side}
@@ -131,7 +131,7 @@ call_counted s t (enter h) n p = changed_counted s (enter_questions t h.side h) 
 call_counted s t (withdraw side) n p = changed_counted s (withdraw_questions t side) t side (without_last (held_of t side)) p
 call_counted s t (render u a) n p = p
 
-calls_counted : (s : Sheets) (t : Held) (xs : List Call) → All NoOpening xs → Counted s t → Counted s (after_calls t xs)
+calls_counted : (s : Sheets) (t : Held) (xs : List Call) → AllByRecursion NoOpening xs → Counted s t → Counted s (after_calls t xs)
 calls_counted s t [] n p = p
 calls_counted s t (x ∷ xs) n p = calls_counted s (after_call t x) xs n.1 (call_counted s t x n.0 p)
 
@@ -139,7 +139,7 @@ pub after_both : (t : Held) (xs ys : List Call) → after_calls t (xs ++ ys) ≡
 after_both t [] ys = refl
 after_both t (x ∷ xs) ys = after_both (after_call t x) xs ys
 
-pub since_opening : (s : Sheets) (xs ys : List Call) → FewLines s → All NoOpening ys → Counted s (after_run (xs ++ (opening s ∷ ys)))
+pub since_opening : (s : Sheets) (xs ys : List Call) → FewLines s → AllByRecursion NoOpening ys → Counted s (after_run (xs ++ (opening s ∷ ys)))
 since_opening s xs ys few n =
     let t = after_run xs in
     let q = small_counts (length s.ancestor) (length s.current) (length s.other) few.ancestor few.current few.other in
@@ -182,7 +182,7 @@ past_follows None h b a = refl
 past_follows (Some g) h b a = says_follows g h (b, a)
 
 module _ (na ns : ℕ) (side : Side) where
-  keeps_says : (g : Option Hunk) (hs : List Hunk) → keeps_from na ns side g hs ≡ true → InOrder side na ns (past g) (after_past g) hs × All NotEmpty hs
+  keeps_says : (g : Option Hunk) (hs : List Hunk) → keeps_from na ns side g hs ≡ true → InOrder side na ns (past g) (after_past g) hs × AllByRecursion NotEmpty hs
   keeps_says g [] e = (tt, tt)
   keeps_says g (h ∷ hs) e =
       let p = and_parts (sound na ns side h && follows g h) (keeps_from na ns side (Some h) hs) e in
@@ -196,7 +196,7 @@ module _ (na ns : ℕ) (side : Side) where
       let r = keeps_says (Some h) hs p.1 in
       ((same_says h.side side s.0, f.0, b.0, b.1, f.1, a.0, a.1, r.0), (changes_says h v.1, r.1))
 
-  says_keeps : (g : Option Hunk) (hs : List Hunk) → InOrder side na ns (past g) (after_past g) hs → All NotEmpty hs → keeps_from na ns side g hs ≡ true
+  says_keeps : (g : Option Hunk) (hs : List Hunk) → InOrder side na ns (past g) (after_past g) hs → AllByRecursion NotEmpty hs → keeps_from na ns side g hs ≡ true
   says_keeps g [] p q = refl
   says_keeps g (h ∷ hs) p q =
       and_from (sound na ns side h && follows g h) (keeps_from na ns side (Some h) hs)

@@ -2,7 +2,7 @@
 use Rattle.std.proofs.Common.{◌≡◌, ℕ, Bool, true, false, cond, ◌&&◌, List, [], ◌∷◌, ◌++◌, drop, Some, sym, refl, ap, ◌∙◌, subst, ap₂, subst₂}
 use Rattle.std.proofs.lemmas.List.{append-nil, append_assoc}
 use Rattle.std.proofs.lemmas.Bool.{not-false}
-use Rattle.std.specs.List.{AllByRecursion as All}
+use Rattle.std.specs.List.{AllByRecursion}
 use Rattle.rules.specs.declared.ending.Ending.{Ending}
 use Rattle.rules.specs.declared.hunk.Hunk.{Hunk}
 use Rattle.rules.specs.declared.mode.Conflict.TheVariants.{ResolveWithUnion}
@@ -120,7 +120,7 @@ module _ (s : Sheets) (l : Labels) where
   cluster_good since k fit true e = group_good k fit (sides_differ s k) refl
   cluster_good since k fit false e = commons (hunk_lines s k.first)
 
-  steps_good : (since : ℕ) (ks : List Cluster) → All (Fit s) ks → Good (all_gaps s ks) in_common (steps_from ResolveWithUnion s l since ks) in_common
+  steps_good : (since : ℕ) (ks : List Cluster) → AllByRecursion (Fit s) ks → Good (all_gaps s ks) in_common (steps_from ResolveWithUnion s l since ks) in_common
   steps_good since [] fit = commons (drop since s.ancestor)
   steps_good since (k ∷ ks) fit =
       let ls = between s.ancestor since (from k) in

@@ -1,6 +1,6 @@
 -- The verdicts: what a rendering reports is whether the two sides of some group differ.
 use Rattle.std.proofs.Common.{◌≡◌, ℕ, Bool, cond, ◌&&◌, ◌||◌, List, [], ◌∷◌, refl, ap, ap₂}
-use Rattle.std.specs.List.{AllByRecursion as All}
+use Rattle.std.specs.List.{AllByRecursion}
 use Rattle.std.proofs.ByRecursion.{All-weaker}
 use Rattle.rules.specs.declared.hunk.Hunk.{Hunk}
 use Rattle.rules.specs.declared.mode.Conflict as modes
@@ -25,11 +25,11 @@ blocked_is Merge s k p = left_is s (ours_lines s k) (theirs_lines s k) (contract
 blocked_is Diff3 s k p = refl
 blocked_is ZealousDiff3 s k p = left_is s (ours_lines s k) (theirs_lines s k) (contracted_sides s k) (sides_lines s k p.ours p.theirs)
 
-pub marked_is : (m : modes.Conflict) (s : Sheets) (ks : List Cluster) → All (λ (k : Cluster). marks m s k ≡ sides_differ s k) ks → any_marked m s ks ≡ some_group_differs s ks
+pub marked_is : (m : modes.Conflict) (s : Sheets) (ks : List Cluster) → AllByRecursion (λ (k : Cluster). marks m s k ≡ sides_differ s k) ks → any_marked m s ks ≡ some_group_differs s ks
 marked_is m s [] p = refl
 marked_is m s (k ∷ ks) p = ap₂ (λ (x y : Bool). (is_group k && x) || y) p.0 (marked_is m s ks p.1)
 
-all_same : (s : Sheets) (ks : List Cluster) → All (λ (k : Cluster). sides_differ s k ≡ sides_differ s k) ks
+all_same : (s : Sheets) (ks : List Cluster) → AllByRecursion (λ (k : Cluster). sides_differ s k ≡ sides_differ s k) ks
 all_same s [] = tt
 all_same s (k ∷ ks) = (refl, all_same s ks)
 

@@ -2,7 +2,7 @@
 use Rattle.std.proofs.Common.{◌≡◌, ℕ, suc, ◌+◌, ◌<◌, ◌≤◌, Bool, true, false, not, ◌&&◌, leb, ◌⊎◌, List, [], ◌∷◌, length, filter, sym, refl, ap, ◌∙◌, ap₂, inl, inr, ⊎_elim, arith}
 use mathlib.Core.List.Memᴰ
 use mathlib.Core.List.{Memᴰ}
-use Rattle.std.specs.List.{AllByRecursion as All}
+use Rattle.std.specs.List.{AllByRecursion}
 use Rattle.std.proofs.lemmas.Bool.{true≢false, leb-true, leb-false, cond_both, cases_order, and_cases, not-true, le-leb, and_parts, and_from, cases_lt}
 use Rattle.rules.specs.declared.hunk.Hunk.{Hunk}
 use Rattle.rules.specs.declared.hunk.Side.{Side}
@@ -16,7 +16,7 @@ use Rattle.rules.proofs.Fits.{walk_all}
 use Rattle.rules.proofs.Kept.{currents_walk, others_walk}
 use Rattle.rules.proofs.Woven.{Run, runs, run_side, any_false, touches_sym}
 
-pub all_of : {X : Type 0} (P : X → Type 0) (xs : List X) → ((x : X) → Memᴰ x xs → P x) → All P xs
+pub all_of : {X : Type 0} (P : X → Type 0) (xs : List X) → ((x : X) → Memᴰ x xs → P x) → AllByRecursion P xs
 all_of P [] f = tt
 all_of P (x ∷ xs) f = (f x (Memᴰ.head refl), all_of P xs (λ y m. f y (Memᴰ.tail m)))
 
@@ -51,10 +51,10 @@ ahead_or c o e f le = ⊎_elim (λ (q : c.before.start ≡ o.before.start). inr 
     (λ (u : (c.before.start < o.before.start) ⊎ (o.before.start < c.before.start)). ⊎_elim (λ (lt : c.before.start < o.before.start). inl lt) (λ (lt : o.before.start < c.before.start). absurd (omega arith)) u)
     (cases_order c.before.start o.before.start)
 
-ahead_run : (g : Hunk) (side : Side) (n : ℕ) (hs : List Hunk) → g.before.start < n → Run side n hs → All (Ahead g) hs
+ahead_run : (g : Hunk) (side : Side) (n : ℕ) (hs : List Hunk) → g.before.start < n → Run side n hs → AllByRecursion (Ahead g) hs
 ahead_run g side n hs lt r = all_of (Ahead g) hs (λ h m. let b = run_low side n hs r h m in inl (omega arith))
 
-ahead_others : (c : Hunk) (n : ℕ) (os : List Hunk) → c.side ≡ Current → c.before.start ≤ n → Run Other n os → All (Ahead c) os
+ahead_others : (c : Hunk) (n : ℕ) (os : List Hunk) → c.side ≡ Current → c.before.start ≤ n → Run Other n os → AllByRecursion (Ahead c) os
 ahead_others c n os e le r = all_of (Ahead c) os (λ o m. ahead_or c o e (run_side Other n os r o m) (let b = run_low Other n os r o m in omega arith))
 
 abbrev Sorts : List Hunk → Type 0
@@ -103,7 +103,7 @@ clear g h op le sp e = ⊎_elim
     (and_cases (leb h.before.start g.before.end) (leb g.before.start h.before.end) q))
     (and_cases (opposite h.side g.side) (leb h.before.start g.before.end && leb g.before.start h.before.end) e)
 
-behind_run : (g : Hunk) (side : Side) (hs : List Hunk) → Run side (suc g.before.end) hs → All (Behind g) hs
+behind_run : (g : Hunk) (side : Side) (hs : List Hunk) → Run side (suc g.before.end) hs → AllByRecursion (Behind g) hs
 behind_run g side hs r = all_of (Behind g) hs (λ h m. let b = run_low side (suc g.before.end) hs r h m in omega arith)
 
 abbrev ApartFrom : List Hunk → List Hunk → Type 0

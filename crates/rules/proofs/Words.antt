@@ -1,5 +1,5 @@
 -- The verdicts in words: there is a group whose sides are not the same lines.
-use Rattle.std.specs.List.{AllByRecursion as All}
+use Rattle.std.specs.List.{AllByRecursion}
 use Rattle.std.proofs.Common.{◌≡◌, Bool, true, false, cond, ◌&&◌, List, [], ◌∷◌, sym, refl, ap, ◌∙◌, subst, inl, inr, ⊎_elim}
 use mathlib.Core.List.Memᴰ
 use mathlib.Core.List.{Memᴰ}
@@ -68,7 +68,7 @@ union_verdict s cs os p =
     (marked_is ResolveWithUnion s ks (All-weaker (Fit s) (λ (k : Cluster). marks ResolveWithUnion s k ≡ sides_differ s k) (union_marks s) ks (kept_fit s cs os p)))
 
 -- the sides of a group differ exactly when what is left of them does
-all_mem : {X : Type 0} (P : X → Type 0) (xs : List X) → All P xs → (x : X) → Memᴰ x xs → P x
+all_mem : {X : Type 0} (P : X → Type 0) (xs : List X) → AllByRecursion P xs → (x : X) → Memᴰ x xs → P x
 all_mem P [] a x m = absurd (Memᴰ.not-nil m)
 all_mem P (y ∷ ys) a x m = ⊎_elim (λ (e : x ≡ y). subst P (sym e) a.0) (λ (i : Memᴰ x ys). all_mem P ys a.1 x i) (Memᴰ.cases_cons m)
 

@@ -1,6 +1,6 @@
 -- The laws of contraction.
 use Rattle.std.specs.Prelude.{◌≡◌, ◌<◌, false, List, [], ◌∷◌, ◌++◌, ◌≢◌}
-use Rattle.std.specs.List.{AllByRecursion as All}
+use Rattle.std.specs.List.{AllByRecursion}
 use Rattle.rules.specs.declared.hunk.Hunk.{Hunk}
 use Rattle.rules.specs.declared.hunk.Side.{Side}
 use Rattle.rules.specs.declared.hunk.Side.TheVariants.{Current, Other, Ancestor}
@@ -76,11 +76,11 @@ pub record ContractionLaw (s : Sheets) (k : Cluster) (d : Sides) : Type 0 where
   pub front_longest : (x y : Line) (xs ys : List Line) → side_lines s d.left ++ side_lines s d.back ≡ x ∷ xs → side_lines s d.right ++ side_lines s d.back ≡ y ∷ ys → x ≢ y
   pub back_longest : (x y : Line) (xs ys : List Line) → side_lines s d.left ≡ xs ++ (x ∷ []) → side_lines s d.right ≡ ys ++ (y ∷ []) → x ≢ y
   -- front and back are of the lead side, that of the group's first hunk: no hunk of theirs is of the facing side
-  pub led : All (NotFacing k.first.side) d.front × All (NotFacing k.first.side) d.back
-  pub ours_left : All (NotFacing Current) d.left
-  pub theirs_left : All (NotFacing Other) d.right
+  pub led : AllByRecursion (NotFacing k.first.side) d.front × AllByRecursion (NotFacing k.first.side) d.back
+  pub ours_left : AllByRecursion (NotFacing Current) d.left
+  pub theirs_left : AllByRecursion (NotFacing Other) d.right
   -- a cut of an Ancestor hunk changes both of its ranges
-  pub straight : All Straight d.front × All Straight d.left × All Straight d.right × All Straight d.back
+  pub straight : AllByRecursion Straight d.front × AllByRecursion Straight d.left × AllByRecursion Straight d.right × AllByRecursion Straight d.back
   -- whole hunks leave, and one hunk is cut in its place; front and back are what the lead side loses
   pub ours_lead : k.first.side ≡ Current → Cuts (ours_of k) d.front d.left d.back × FacingCuts s (theirs_of k) d.front d.right d.back
   pub theirs_lead : k.first.side ≡ Other → Cuts (theirs_of k) d.front d.right d.back × FacingCuts s (ours_of k) d.front d.left d.back

@@ -1,7 +1,7 @@
 -- The laws of groups: they are the chains of touching hunks, and lie apart in the ancestor.
 use Rattle.std.specs.Prelude.{◌≡◌, ◌<◌, ◌≤◌, true, false, T, List, [], ◌∷◌, ◌++◌, map}
 use mathlib.Core.List.{Memᴰ}
-use Rattle.std.specs.List.{AllByRecursion as All}
+use Rattle.std.specs.List.{AllByRecursion}
 use Rattle.rules.specs.declared.hunk.Hunk.{Hunk}
 use Rattle.rules.specs.Hunks.{Sheets, touches, lone_ones}
 use Rattle.rules.specs.Walk.{walk, currents, others}
@@ -33,9 +33,9 @@ pub record GroupsAreChains (hs : List Hunk) : Type 0 where
 
 -- A cluster's range runs from the least before.start of its hunks to the greatest before.end.
 pub record Range (k : Cluster) : Type 0 where
-  pub starts : All (λ (h : Hunk). from k ≤ h.before.start) (members k)
+  pub starts : AllByRecursion (λ (h : Hunk). from k ≤ h.before.start) (members k)
   pub first_start : (h : Hunk) × Memᴰ h (members k) × (h.before.start ≡ from k)
-  pub ends : All (λ (h : Hunk). h.before.end ≤ to k) (members k)
+  pub ends : AllByRecursion (λ (h : Hunk). h.before.end ≤ to k) (members k)
   pub last_end : (h : Hunk) × Memᴰ h (members k) × (h.before.end ≡ to k)
 
 -- At least one line of the ancestor lies between.
@@ -47,7 +47,7 @@ Behind g h = g.before.end < h.before.start
 
 -- Neighbouring groups and lone hunks lie apart, and so do the hunks that ours and theirs put in.
 pub record RangeLaws (cs os : List Hunk) : Type 0 where
-  pub ranges : All Range (clusters (walk cs os))
+  pub ranges : AllByRecursion Range (clusters (walk cs os))
   pub apart : InTurn Apart (clusters (walk cs os))
   pub ours_apart : InTurn Behind (walk cs (lone_ones cs os))
   pub theirs_apart : InTurn Behind (walk (lone_ones os cs) os)

@@ -1,6 +1,6 @@
 -- The laws of markers, and of the endings that open lines are given.
 use Rattle.std.specs.Prelude.{◌≡◌, ℕ, Bool, true, false, cond, ◌&&◌, List, [], ◌∷◌, ◌++◌, replicate, Some, None, Option, ◌≢◌}
-use Rattle.std.specs.List.{AllByRecursion as All}
+use Rattle.std.specs.List.{AllByRecursion}
 use Rattle.rules.specs.declared.ending.Ending.{Ending}
 use Rattle.rules.specs.declared.ending.Ending.TheVariants.{Newline}
 use Rattle.rules.specs.declared.hunk.Hunk.{Hunk}
@@ -139,6 +139,6 @@ pub record MarkerLaws (s : Sheets) (cs os : List Hunk) : Type 0 where
   pub base_styles : (with_base Merge ≡ false) × (with_base Diff3 ≡ true) × (with_base ZealousDiff3 ≡ true)
   pub contracting_styles : (contracts Merge ≡ true) × (contracts Diff3 ≡ false) × (contracts ZealousDiff3 ≡ true)
   pub closes : (m : modes.Conflict) (l : Labels) (ps qs : List Chunk) (c : Chunk) → rendering m s l cs os ≡ ps ++ (c ∷ qs) → c.kind ≡ ending → Closes ps c
-  pub ours_unmarked : (l : Labels) → All Unmarked (rendering ResolveWithOurs s l cs os)
-  pub theirs_unmarked : (l : Labels) → All Unmarked (rendering ResolveWithTheirs s l cs os)
-  pub union_unmarked : (l : Labels) → All Unmarked (rendering ResolveWithUnion s l cs os)
+  pub ours_unmarked : (l : Labels) → AllByRecursion Unmarked (rendering ResolveWithOurs s l cs os)
+  pub theirs_unmarked : (l : Labels) → AllByRecursion Unmarked (rendering ResolveWithTheirs s l cs os)
+  pub union_unmarked : (l : Labels) → AllByRecursion Unmarked (rendering ResolveWithUnion s l cs os)

@@ -1,6 +1,6 @@
 -- The agreement over runs, whole: every law above, of what two units hold and show after any two runs of calls.
 use Rattle.std.specs.Prelude.{◌≡◌, ℕ, List, [], ◌∷◌, ◌++◌, Ok}
-use Rattle.std.specs.List.{AllByRecursion as All}
+use Rattle.std.specs.List.{AllByRecursion}
 use Rattle.rules.specs.declared.mode.Resolution.{Resolution}
 use Rattle.rules.specs.Hunks.{Sheets}
 use Rattle.rules.specs.Pieces.{Chunk, one_more, more_bytes}
@@ -39,7 +39,7 @@ pub record AgreementOverRuns (V : Type 0) (rule : V → Chunk → V) (fresh : V)
   pub renders : (xs : List Call) (s : Sheets) → RenderRules V rule fresh (after_run xs) s
   pub renders' : (xs : List Call) (s : Sheets) → RenderRules V' rule' fresh' (after_run xs) s
   -- a table has the counts of the sheets whenever it was opened with them and not again since, and whenever a render of them is accepted
-  pub since_opening : (s : Sheets) (xs ys : List Call) → FewLines s → All NoOpening ys → Counted s (after_run (xs ++ (opening s ∷ ys)))
+  pub since_opening : (s : Sheets) (xs ys : List Call) → FewLines s → AllByRecursion NoOpening ys → Counted s (after_run (xs ++ (opening s ∷ ys)))
   pub when_accepted : (s : Sheets) (xs : List Call) (a : Asked) (v : Resolution) → render_answer (after_run xs) s a ≡ Ok v → Counted s (after_run xs)
   -- two units whose tables have the counts of their sheets, each after a run of its own
   pub agree : (s : Sheets) (xs ys : List Call) → Counted s (after_run xs) → Counted (exchanged_sheets s) (after_run ys) → AgreementAfter s (after_run xs) (after_run ys)

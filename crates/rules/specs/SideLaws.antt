@@ -1,6 +1,6 @@
 -- What each mode writes of the groups: ours, theirs, both.
 use Rattle.std.specs.Prelude.{◌≡◌, ℕ, cond, List, [], ◌∷◌, ◌++◌, drop}
-use Rattle.std.specs.List.{AllByRecursion as All}
+use Rattle.std.specs.List.{AllByRecursion}
 use Rattle.rules.specs.declared.hunk.Hunk.{Hunk}
 use Rattle.rules.specs.declared.mode.Conflict.TheVariants.{ResolveWithOurs, ResolveWithTheirs, ResolveWithUnion}
 use Rattle.rules.specs.Lines.{Line, between}
@@ -28,4 +28,4 @@ pub record SideLaws (s : Sheets) (cs os : List Hunk) : Type 0 where
   pub ours : (l : Labels) → all_lines (rendering ResolveWithOurs s l cs os) ≡ with_groups (λ k. side_lines s (side_of is_current k)) s 0 (clusters (walk cs os))
   pub theirs : (l : Labels) → all_lines (rendering ResolveWithTheirs s l cs os) ≡ with_groups (λ k. side_lines s (side_of is_other k)) s 0 (clusters (walk cs os))
   pub union : (l : Labels) → all_lines (rendering ResolveWithUnion s l cs os) ≡ with_groups (union_lines s) s 0 (clusters (walk cs os))
-  pub contraction : All (λ (k : Cluster). ContractionLaw s k (contracted_sides s k)) (clusters (walk cs os))
+  pub contraction : AllByRecursion (λ (k : Cluster). ContractionLaw s k (contracted_sides s k)) (clusters (walk cs os))

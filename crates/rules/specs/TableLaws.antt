@@ -1,6 +1,6 @@
 -- The laws of the hunk table, in words.
 use Rattle.std.specs.Prelude.{◌≡◌, ℕ, ◌+◌, ◌-◌, ◌<◌, ◌≤◌, true, ◌⊎◌, List, [], ◌∷◌, ◌++◌, length, Some, None, Ok, Err, ◌≢◌}
-use Rattle.std.specs.List.{AllByRecursion as All}
+use Rattle.std.specs.List.{AllByRecursion}
 use Rattle.rules.specs.declared.hunk.Hunk.{Hunk}
 use Rattle.rules.specs.declared.hunk.Side.{Side}
 use Rattle.rules.specs.declared.hunk.Side.TheVariants.{Current, Other, Ancestor}
@@ -108,10 +108,10 @@ pub record TableKeeps (t : Held) : Type 0 where
   pub other : InOrder Other t.ancestor_lines t.other_lines 0 0 t.other
   pub few_current : length t.current ≤ max_hunks
   pub few_other : length t.other ≤ max_hunks
-  pub full_current : All NotEmpty t.current
-  pub full_other : All NotEmpty t.other
+  pub full_current : AllByRecursion NotEmpty t.current
+  pub full_other : AllByRecursion NotEmpty t.other
 
 -- The test of a side's hunks says that they are in order and none is empty.
 abbrev pub KeepsLaw : Type 0
 KeepsLaw = (na ns : ℕ) (side : Side) (hs : List Hunk)
-    → (keeps na ns side hs ≡ true → InOrder side na ns 0 0 hs × All NotEmpty hs) × (InOrder side na ns 0 0 hs × All NotEmpty hs → keeps na ns side hs ≡ true)
+    → (keeps na ns side hs ≡ true → InOrder side na ns 0 0 hs × AllByRecursion NotEmpty hs) × (InOrder side na ns 0 0 hs × AllByRecursion NotEmpty hs → keeps na ns side hs ≡ true)

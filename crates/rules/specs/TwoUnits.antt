@@ -1,7 +1,7 @@
 -- The agreement of two units, told of their renders. They have the same three sheets, current on one being other on the second. The table of each is
 -- opened with the counts of its sheets, and then used by any enters, withdrawals and renders, accepted or refused.
 use Rattle.std.specs.Prelude.{◌≡◌, ℕ, Bool, true, false, ◌⊎◌, List, ◌∷◌, ◌++◌, map, Ok}
-use Rattle.std.specs.List.{AllByRecursion as All}
+use Rattle.std.specs.List.{AllByRecursion}
 use Rattle.rules.specs.declared.hunk.Hunk.{Hunk}
 use Rattle.rules.specs.declared.mode.Conflict.TheVariants.{Keep, ResolveWithOurs, ResolveWithTheirs}
 use Rattle.rules.specs.declared.mode.ConflictStyle.{ConflictStyle}
@@ -27,7 +27,7 @@ pub record UnitOf (s : Sheets) : Type 0 where
   pub earlier : List Call
   pub since : List Call
   pub few : FewLines s
-  pub no_opening : All NoOpening since
+  pub no_opening : AllByRecursion NoOpening since
 
 abbrev pub table_of : (s : Sheets) → UnitOf s → Held
 table_of s u = after_run (u.earlier ++ (opening s ∷ u.since))

@@ -1,6 +1,6 @@
 -- The laws of touching and of the walk.
 use Rattle.std.specs.Prelude.{◌≡◌, ◌+◌, ◌<◌, ◌≤◌, true, ◌⊎◌, List, [], ◌∷◌, length}
-use Rattle.std.specs.List.{AllByRecursion as All}
+use Rattle.std.specs.List.{AllByRecursion}
 use Rattle.rules.specs.declared.hunk.Hunk.{Hunk}
 use Rattle.rules.specs.declared.hunk.Side.{Side}
 use Rattle.rules.specs.declared.hunk.Side.TheVariants.{Current, Other}
@@ -10,7 +10,7 @@ use Rattle.rules.specs.Walk.{walk, currents, others}
 -- Every element of a list stands so to every later one.
 abbrev pub InTurn : {X : Type 0} → (X → X → Type 0) → List X → Type 0
 InTurn R [] = Unit {0}
-InTurn R (x ∷ xs) = All (R x) xs × InTurn R xs
+InTurn R (x ∷ xs) = AllByRecursion (R x) xs × InTurn R xs
 
 -- Two lists of one length whose elements are related pair by pair, in order.
 abbrev pub Pairwise : {X Y : Type 0} → (X → Y → Type 0) → List X → List Y → Type 0

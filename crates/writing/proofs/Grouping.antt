@@ -1,6 +1,6 @@
 -- The two sides of a group as a mode takes them.
 use Rattle.std.proofs.Common.{◌≡◌, ℕ, ◌≤◌, Bool, true, false, cond, List, [], ◌++◌, length, take, drop, sym, refl, ap, ◌∙◌, arith}
-use Rattle.std.specs.List.{AllByRecursion as All}
+use Rattle.std.specs.List.{AllByRecursion}
 use Rattle.std.proofs.lemmas.List.{take_at, drop_at, length-append}
 use Rattle.std.proofs.lemmas.Bool.{cond_both}
 use Rattle.rules.specs.declared.hunk.Hunk.{Hunk}
@@ -21,18 +21,18 @@ use Rattle.hunks.proofs.Helds.{held_length}
 use Rattle.contract.proofs.Contracting.{readables}
 use Rattle.writing.specs.Sides.{sides_of, contracted_lists, lists_in, lists_differ, GroupsTold}
 
--- All four lists can be read.
+-- AllByRecursion four lists can be read.
 pub record Readables (s : Sheets) (d : Sides) : Type 0 where
-  pub front : All (Readable s) d.front
-  pub left : All (Readable s) d.left
-  pub right : All (Readable s) d.right
-  pub back : All (Readable s) d.back
+  pub front : AllByRecursion (Readable s) d.front
+  pub left : AllByRecursion (Readable s) d.left
+  pub right : AllByRecursion (Readable s) d.right
+  pub back : AllByRecursion (Readable s) d.back
 
-pub contracted_readable : (s : Sheets) (b : Bool) (l r : List Hunk) → All (Readable s) l → All (Readable s) r → Readables s (contracted_lists s b l r)
+pub contracted_readable : (s : Sheets) (b : Bool) (l r : List Hunk) → AllByRecursion (Readable s) l → AllByRecursion (Readable s) r → Readables s (contracted_lists s b l r)
 contracted_readable s true l r p q = let c = readables s l r p q in record { front = c.front; left = c.lead; right = c.facing; back = c.back }
 contracted_readable s false l r p q = let c = readables s r l q p in record { front = c.front; left = c.facing; right = c.lead; back = c.back }
 
-pub lists_readable : (style : ConflictStyle) (s : Sheets) (b : Bool) (l r : List Hunk) → All (Readable s) l → All (Readable s) r → Readables s (lists_in style s b l r)
+pub lists_readable : (style : ConflictStyle) (s : Sheets) (b : Bool) (l r : List Hunk) → AllByRecursion (Readable s) l → AllByRecursion (Readable s) r → Readables s (lists_in style s b l r)
 lists_readable style s b l r p q =
     cond_both (contracts style) (contracted_lists s b l r) (sides_of [] l r []) (Readables s) (λ e. contracted_readable s b l r p q) (λ e. record { front = tt; left = p; right = q; back = tt })
 

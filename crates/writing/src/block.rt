@@ -1,6 +1,6 @@
 ghost use Rattle.std.specs.Prelude.{◌≡◌, ℕ, ◌≤◌, length, None};
 ghost use Rattle.std.specs.Option.{option_map};
-ghost use Rattle.std.specs.List.{AllByRecursion as All};
+ghost use Rattle.std.specs.List.{AllByRecursion};
 ghost use Rattle.rules.specs.Limits.{max_marker_size, max_filled};
 ghost use Rattle.rules.specs.Contraction.{Readable};
 ghost use Rattle.rules.specs.Sides.{line_left};
@@ -83,8 +83,8 @@ fn write_block<T: ThreeSheets, S: Sink>(
 ) -> bool
     requires within { range.end ≤ length (T.ThreeSheets.sheets three.now).ancestor }
     requires size { size ≤ max_marker_size }
-    requires ours { All (Readable (T.ThreeSheets.sheets three.now)) left.now }
-    requires theirs { All (Readable (T.ThreeSheets.sheets three.now)) right.now }
+    requires ours { AllByRecursion (Readable (T.ThreeSheets.sheets three.now)) left.now }
+    requires theirs { AllByRecursion (Readable (T.ThreeSheets.sheets three.now)) right.now }
     requires room { Room (state (S.Sink.value sink.old) (S.Sink.taken sink.old) (S.Sink.announced sink.old) ajar) (block_steps style (T.ThreeSheets.sheets three.now) size (labels_in labels) ending range.start range.end left.now right.now) }
     ensures written { (state (S.Sink.value sink.new) (S.Sink.taken sink.new) (S.Sink.announced sink.new) result) ≡ after S.Sink.rule (state (S.Sink.value sink.old) (S.Sink.taken sink.old) (S.Sink.announced sink.old) ajar) (block_steps style (T.ThreeSheets.sheets three.now) size (labels_in labels.entry) ending range.start range.end left.now right.now) }
     ensures kept { Keeps (S.Sink.fresh sink.old) (S.Sink.fresh sink.new) (S.Sink.capacity sink.old) (S.Sink.capacity sink.new) (S.Sink.taken sink.old) (S.Sink.taken sink.new) (S.Sink.rest sink.old) (S.Sink.rest sink.new) }
@@ -99,8 +99,8 @@ fn write_block<T: ThreeSheets, S: Sink>(
 
 /// Whether either side has a line left.
 pub fn any_line_left<T: ThreeSheets>(three: &T, left: &[Hunk], right: &[Hunk]) -> bool
-    requires ours { All (Readable (T.ThreeSheets.sheets three.now)) left.now }
-    requires theirs { All (Readable (T.ThreeSheets.sheets three.now)) right.now }
+    requires ours { AllByRecursion (Readable (T.ThreeSheets.sheets three.now)) left.now }
+    requires theirs { AllByRecursion (Readable (T.ThreeSheets.sheets three.now)) right.now }
     ensures { result ≡ line_left (T.ThreeSheets.sheets three.now) left.now right.now }
 {
     contains_lines(left) || contains_lines(right)
@@ -123,8 +123,8 @@ pub fn write_kept<T: ThreeSheets, S: Sink>(
     requires within { range.end ≤ length (T.ThreeSheets.sheets three.now).ancestor }
     requires size { size ≤ max_marker_size }
     requires few { (length left.now ≤ max_filled) × (length right.now ≤ max_filled) }
-    requires ours { All (Readable (T.ThreeSheets.sheets three.now)) left.now }
-    requires theirs { All (Readable (T.ThreeSheets.sheets three.now)) right.now }
+    requires ours { AllByRecursion (Readable (T.ThreeSheets.sheets three.now)) left.now }
+    requires theirs { AllByRecursion (Readable (T.ThreeSheets.sheets three.now)) right.now }
     requires room { Room (state (S.Sink.value sink.old) (S.Sink.taken sink.old) (S.Sink.announced sink.old) ajar) (kept_steps style (T.ThreeSheets.sheets three.now) size (labels_in labels) ending range.start range.end left.now right.now) }
     ensures written { (state (S.Sink.value sink.new) (S.Sink.taken sink.new) (S.Sink.announced sink.new) result.0) ≡ after S.Sink.rule (state (S.Sink.value sink.old) (S.Sink.taken sink.old) (S.Sink.announced sink.old) ajar) (kept_steps style (T.ThreeSheets.sheets three.now) size (labels_in labels.entry) ending range.start range.end left.now right.now) }
     ensures kept { Keeps (S.Sink.fresh sink.old) (S.Sink.fresh sink.new) (S.Sink.capacity sink.old) (S.Sink.capacity sink.new) (S.Sink.taken sink.old) (S.Sink.taken sink.new) (S.Sink.rest sink.old) (S.Sink.rest sink.new) }

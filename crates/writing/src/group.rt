@@ -1,5 +1,5 @@
 ghost use Rattle.std.specs.Prelude.{◌≡◌, ℕ, ◌≤◌, ◌++◌, length};
-ghost use Rattle.std.specs.List.{AllByRecursion as All};
+ghost use Rattle.std.specs.List.{AllByRecursion};
 ghost use Rattle.rules.specs.Limits.{max_marker_size};
 ghost use Rattle.rules.specs.Walk.{is_current};
 ghost use Rattle.rules.specs.Hunks.{side_lines};
@@ -35,8 +35,8 @@ fn contract_sides<T: ThreeSheets>(
     theirs: &mut HunkList<MAX_FILLED>,
     removed: &mut HunkList<MAX_REMOVED>,
 ) -> usize
-    requires ours { All (Readable (T.ThreeSheets.sheets three.now)) (held ours.old) }
-    requires theirs { All (Readable (T.ThreeSheets.sheets three.now)) (held theirs.old) }
+    requires ours { AllByRecursion (Readable (T.ThreeSheets.sheets three.now)) (held ours.old) }
+    requires theirs { AllByRecursion (Readable (T.ThreeSheets.sheets three.now)) (held theirs.old) }
     ensures left { held ours.new ≡ (contracted_lists (T.ThreeSheets.sheets three.now) (is_current lead) (held ours.old) (held theirs.old)).left }
     ensures right { held theirs.new ≡ (contracted_lists (T.ThreeSheets.sheets three.now) (is_current lead) (held ours.old) (held theirs.old)).right }
     ensures removed { held removed.new ≡ (contracted_lists (T.ThreeSheets.sheets three.now) (is_current lead) (held ours.old) (held theirs.old)).front ++ (contracted_lists (T.ThreeSheets.sheets three.now) (is_current lead) (held ours.old) (held theirs.old)).back }
@@ -63,8 +63,8 @@ fn take_sides<T: ThreeSheets>(
     theirs: &mut HunkList<MAX_FILLED>,
     removed: &mut HunkList<MAX_REMOVED>,
 ) -> usize
-    requires ours { All (Readable (T.ThreeSheets.sheets three.now)) (held ours.old) }
-    requires theirs { All (Readable (T.ThreeSheets.sheets three.now)) (held theirs.old) }
+    requires ours { AllByRecursion (Readable (T.ThreeSheets.sheets three.now)) (held ours.old) }
+    requires theirs { AllByRecursion (Readable (T.ThreeSheets.sheets three.now)) (held theirs.old) }
     ensures left { held ours.new ≡ (lists_in style (T.ThreeSheets.sheets three.now) (is_current lead) (held ours.old) (held theirs.old)).left }
     ensures right { held theirs.new ≡ (lists_in style (T.ThreeSheets.sheets three.now) (is_current lead) (held ours.old) (held theirs.old)).right }
     ensures removed { held removed.new ≡ (lists_in style (T.ThreeSheets.sheets three.now) (is_current lead) (held ours.old) (held theirs.old)).front ++ (lists_in style (T.ThreeSheets.sheets three.now) (is_current lead) (held ours.old) (held theirs.old)).back }
@@ -87,8 +87,8 @@ fn sides_differ<T: ThreeSheets>(
     ours: &HunkList<MAX_FILLED>,
     theirs: &HunkList<MAX_FILLED>,
 ) -> bool
-    requires ours { All (Readable (T.ThreeSheets.sheets three.now)) (held ours.now) }
-    requires theirs { All (Readable (T.ThreeSheets.sheets three.now)) (held theirs.now) }
+    requires ours { AllByRecursion (Readable (T.ThreeSheets.sheets three.now)) (held ours.now) }
+    requires theirs { AllByRecursion (Readable (T.ThreeSheets.sheets three.now)) (held theirs.now) }
     ensures { result ≡ lists_differ (T.ThreeSheets.sheets three.now) (held ours.now) (held theirs.now) }
 {
     let left = ours.as_slice();
@@ -103,7 +103,7 @@ fn write_side<T: ThreeSheets, S: Sink>(
     sink: &mut S,
     ajar: bool,
 ) -> bool
-    requires readable { All (Readable (T.ThreeSheets.sheets three.now)) (held side.now) }
+    requires readable { AllByRecursion (Readable (T.ThreeSheets.sheets three.now)) (held side.now) }
     requires room { Room (state (S.Sink.value sink.old) (S.Sink.taken sink.old) (S.Sink.announced sink.old) ajar) (each common (side_lines (T.ThreeSheets.sheets three.now) (held side.now))) }
     ensures written { (state (S.Sink.value sink.new) (S.Sink.taken sink.new) (S.Sink.announced sink.new) result) ≡ after S.Sink.rule (state (S.Sink.value sink.old) (S.Sink.taken sink.old) (S.Sink.announced sink.old) ajar) (each common (side_lines (T.ThreeSheets.sheets three.now) (held side.now))) }
     ensures kept { Keeps (S.Sink.fresh sink.old) (S.Sink.fresh sink.new) (S.Sink.capacity sink.old) (S.Sink.capacity sink.new) (S.Sink.taken sink.old) (S.Sink.taken sink.new) (S.Sink.rest sink.old) (S.Sink.rest sink.new) }
@@ -129,8 +129,8 @@ fn keep_group<T: ThreeSheets, S: Sink>(
 ) -> (bool, bool)
     requires within { range.end ≤ length (T.ThreeSheets.sheets three.now).ancestor }
     requires size { size ≤ max_marker_size }
-    requires ours { All (Readable (T.ThreeSheets.sheets three.now)) (held ours.old) }
-    requires theirs { All (Readable (T.ThreeSheets.sheets three.now)) (held theirs.old) }
+    requires ours { AllByRecursion (Readable (T.ThreeSheets.sheets three.now)) (held ours.old) }
+    requires theirs { AllByRecursion (Readable (T.ThreeSheets.sheets three.now)) (held theirs.old) }
     requires room { Room (state (S.Sink.value sink.old) (S.Sink.taken sink.old) (S.Sink.announced sink.old) ajar) (keep_steps style (T.ThreeSheets.sheets three.now) size (labels_in labels) since range.start range.end (lists_in style (T.ThreeSheets.sheets three.now) (is_current lead) (held ours.old) (held theirs.old))) }
     ensures written { (state (S.Sink.value sink.new) (S.Sink.taken sink.new) (S.Sink.announced sink.new) result.0) ≡ after S.Sink.rule (state (S.Sink.value sink.old) (S.Sink.taken sink.old) (S.Sink.announced sink.old) ajar) (keep_steps style (T.ThreeSheets.sheets three.now) size (labels_in labels.entry) since range.start range.end (lists_in style (T.ThreeSheets.sheets three.now) (is_current lead) (held ours.old) (held theirs.old))) }
     ensures kept { Keeps (S.Sink.fresh sink.old) (S.Sink.fresh sink.new) (S.Sink.capacity sink.old) (S.Sink.capacity sink.new) (S.Sink.taken sink.old) (S.Sink.taken sink.new) (S.Sink.rest sink.old) (S.Sink.rest sink.new) }
@@ -156,8 +156,8 @@ fn union_group<T: ThreeSheets, S: Sink>(
     sink: &mut S,
     ajar: bool,
 ) -> (bool, bool)
-    requires ours { All (Readable (T.ThreeSheets.sheets three.now)) (held ours.old) }
-    requires theirs { All (Readable (T.ThreeSheets.sheets three.now)) (held theirs.old) }
+    requires ours { AllByRecursion (Readable (T.ThreeSheets.sheets three.now)) (held ours.old) }
+    requires theirs { AllByRecursion (Readable (T.ThreeSheets.sheets three.now)) (held theirs.old) }
     requires room { Room (state (S.Sink.value sink.old) (S.Sink.taken sink.old) (S.Sink.announced sink.old) ajar) (union_steps (T.ThreeSheets.sheets three.now) (contracted_lists (T.ThreeSheets.sheets three.now) (is_current lead) (held ours.old) (held theirs.old))) }
     ensures written { (state (S.Sink.value sink.new) (S.Sink.taken sink.new) (S.Sink.announced sink.new) result.0) ≡ after S.Sink.rule (state (S.Sink.value sink.old) (S.Sink.taken sink.old) (S.Sink.announced sink.old) ajar) (union_steps (T.ThreeSheets.sheets three.now) (contracted_lists (T.ThreeSheets.sheets three.now) (is_current lead) (held ours.old) (held theirs.old))) }
     ensures kept { Keeps (S.Sink.fresh sink.old) (S.Sink.fresh sink.new) (S.Sink.capacity sink.old) (S.Sink.capacity sink.new) (S.Sink.taken sink.old) (S.Sink.taken sink.new) (S.Sink.rest sink.old) (S.Sink.rest sink.new) }
@@ -190,8 +190,8 @@ pub fn write_group<T: ThreeSheets, S: Sink>(
 ) -> (bool, bool)
     requires within { range.end ≤ length (T.ThreeSheets.sheets three.now).ancestor }
     requires size { size_of mode ≤ max_marker_size }
-    requires ours { All (Readable (T.ThreeSheets.sheets three.now)) (held ours.old) }
-    requires theirs { All (Readable (T.ThreeSheets.sheets three.now)) (held theirs.old) }
+    requires ours { AllByRecursion (Readable (T.ThreeSheets.sheets three.now)) (held ours.old) }
+    requires theirs { AllByRecursion (Readable (T.ThreeSheets.sheets three.now)) (held theirs.old) }
     requires room { Room (state (S.Sink.value sink.old) (S.Sink.taken sink.old) (S.Sink.announced sink.old) ajar) (lists_steps mode (T.ThreeSheets.sheets three.now) (labels_in labels) since range.start range.end (is_current lead) (held ours.old) (held theirs.old)) }
     ensures written { (state (S.Sink.value sink.new) (S.Sink.taken sink.new) (S.Sink.announced sink.new) result.0) ≡ after S.Sink.rule (state (S.Sink.value sink.old) (S.Sink.taken sink.old) (S.Sink.announced sink.old) ajar) (lists_steps mode (T.ThreeSheets.sheets three.now) (labels_in labels.entry) since range.start range.end (is_current lead) (held ours.old) (held theirs.old)) }
     ensures kept { Keeps (S.Sink.fresh sink.old) (S.Sink.fresh sink.new) (S.Sink.capacity sink.old) (S.Sink.capacity sink.new) (S.Sink.taken sink.old) (S.Sink.taken sink.new) (S.Sink.rest sink.old) (S.Sink.rest sink.new) }

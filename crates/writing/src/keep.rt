@@ -1,5 +1,5 @@
 ghost use Rattle.std.specs.Prelude.{◌≡◌, ℕ, ◌≤◌, length};
-ghost use Rattle.std.specs.List.{AllByRecursion as All};
+ghost use Rattle.std.specs.List.{AllByRecursion};
 ghost use Rattle.rules.specs.Limits.{max_marker_size, max_filled};
 ghost use Rattle.rules.specs.Contraction.{Readable};
 ghost use Rattle.rules.specs.Blocks.{before_block, marker_ending, blocked, keep_steps};
@@ -68,10 +68,10 @@ pub fn write_keep<T: ThreeSheets, S: Sink>(
     requires within { range.end ≤ length (T.ThreeSheets.sheets three.now).ancestor }
     requires size { size ≤ max_marker_size }
     requires few { (length left.now ≤ max_filled) × (length right.now ≤ max_filled) }
-    requires ahead { All (Readable (T.ThreeSheets.sheets three.now)) front.now }
-    requires ours { All (Readable (T.ThreeSheets.sheets three.now)) left.now }
-    requires theirs { All (Readable (T.ThreeSheets.sheets three.now)) right.now }
-    requires behind { All (Readable (T.ThreeSheets.sheets three.now)) back.now }
+    requires ahead { AllByRecursion (Readable (T.ThreeSheets.sheets three.now)) front.now }
+    requires ours { AllByRecursion (Readable (T.ThreeSheets.sheets three.now)) left.now }
+    requires theirs { AllByRecursion (Readable (T.ThreeSheets.sheets three.now)) right.now }
+    requires behind { AllByRecursion (Readable (T.ThreeSheets.sheets three.now)) back.now }
     requires room { Room (state (S.Sink.value sink.old) (S.Sink.taken sink.old) (S.Sink.announced sink.old) ajar) (keep_steps style (T.ThreeSheets.sheets three.now) size (labels_in labels) since range.start range.end (sides_of front.now left.now right.now back.now)) }
     ensures written { (state (S.Sink.value sink.new) (S.Sink.taken sink.new) (S.Sink.announced sink.new) result.0) ≡ after S.Sink.rule (state (S.Sink.value sink.old) (S.Sink.taken sink.old) (S.Sink.announced sink.old) ajar) (keep_steps style (T.ThreeSheets.sheets three.now) size (labels_in labels.entry) since range.start range.end (sides_of front.now left.now right.now back.now)) }
     ensures kept { Keeps (S.Sink.fresh sink.old) (S.Sink.fresh sink.new) (S.Sink.capacity sink.old) (S.Sink.capacity sink.new) (S.Sink.taken sink.old) (S.Sink.taken sink.new) (S.Sink.rest sink.old) (S.Sink.rest sink.new) }

@@ -1,5 +1,5 @@
 ghost use Rattle.std.specs.Prelude.{◌≡◌, ℕ, ◌+◌, ◌-◌, ◌<◌, ◌≤◌, Bool, true, false, cond, not, List, [], ◌∷◌, ◌++◌, length};
-ghost use Rattle.std.specs.List.{AllByRecursion as All};
+ghost use Rattle.std.specs.List.{AllByRecursion};
 ghost use Rattle.writing.specs.States.{state, after, Room, Keeps};
 ghost use Rattle.rules.specs.Hunks.{sheet_of, side_lines};
 ghost use Rattle.rules.specs.Lines.{between};
@@ -59,7 +59,7 @@ pub fn write_hunks<T: ThreeSheets, S: Sink>(
     sink: &mut S,
     ajar: bool,
 ) -> bool
-    requires readable { All (Readable (T.ThreeSheets.sheets three.now)) hunks.now }
+    requires readable { AllByRecursion (Readable (T.ThreeSheets.sheets three.now)) hunks.now }
     requires room { Room (state (S.Sink.value sink.old) (S.Sink.taken sink.old) (S.Sink.announced sink.old) ajar) (each (kind_of kind) (side_lines (T.ThreeSheets.sheets three.now) hunks.now)) }
     ensures written { (state (S.Sink.value sink.new) (S.Sink.taken sink.new) (S.Sink.announced sink.new) result) ≡ after S.Sink.rule (state (S.Sink.value sink.old) (S.Sink.taken sink.old) (S.Sink.announced sink.old) ajar) (each (kind_of kind) (side_lines (T.ThreeSheets.sheets three.now) hunks.now)) }
     ensures kept { Keeps (S.Sink.fresh sink.old) (S.Sink.fresh sink.new) (S.Sink.capacity sink.old) (S.Sink.capacity sink.new) (S.Sink.taken sink.old) (S.Sink.taken sink.new) (S.Sink.rest sink.old) (S.Sink.rest sink.new) }

@@ -1,5 +1,5 @@
 ghost use Rattle.std.specs.Prelude.{◌≡◌, ℕ, ◌≤◌, List, [], ◌∷◌, ◌++◌};
-ghost use Rattle.std.specs.List.{AllByRecursion as All};
+ghost use Rattle.std.specs.List.{AllByRecursion};
 ghost use Rattle.rules.specs.Hunks.{side_lines};
 ghost use Rattle.rules.specs.Contraction.{Readable};
 ghost use Rattle.rules.specs.Endings.{ending_of, or_newline};
@@ -38,8 +38,8 @@ fn write_sides<T: ThreeSheets, S: Sink>(
     sink: &mut S,
     ajar: bool,
 ) -> bool
-    requires ours { All (Readable (T.ThreeSheets.sheets three.now)) left.now }
-    requires theirs { All (Readable (T.ThreeSheets.sheets three.now)) right.now }
+    requires ours { AllByRecursion (Readable (T.ThreeSheets.sheets three.now)) left.now }
+    requires theirs { AllByRecursion (Readable (T.ThreeSheets.sheets three.now)) right.now }
     requires room { Room (state (S.Sink.value sink.old) (S.Sink.taken sink.old) (S.Sink.announced sink.old) ajar) (close (or_newline (ending_of (T.ThreeSheets.sheets three.now) front.now)) ∷ (each ours (side_lines (T.ThreeSheets.sheets three.now) left.now) ++ (close (or_newline (ending_of (T.ThreeSheets.sheets three.now) left.now)) ∷ each theirs (side_lines (T.ThreeSheets.sheets three.now) right.now)))) }
     ensures written { (state (S.Sink.value sink.new) (S.Sink.taken sink.new) (S.Sink.announced sink.new) result) ≡ after S.Sink.rule (state (S.Sink.value sink.old) (S.Sink.taken sink.old) (S.Sink.announced sink.old) ajar) (close (or_newline (ending_of (T.ThreeSheets.sheets three.now) front.now)) ∷ (each ours (side_lines (T.ThreeSheets.sheets three.now) left.now) ++ (close (or_newline (ending_of (T.ThreeSheets.sheets three.now) left.now)) ∷ each theirs (side_lines (T.ThreeSheets.sheets three.now) right.now)))) }
     ensures kept { Keeps (S.Sink.fresh sink.old) (S.Sink.fresh sink.new) (S.Sink.capacity sink.old) (S.Sink.capacity sink.new) (S.Sink.taken sink.old) (S.Sink.taken sink.new) (S.Sink.rest sink.old) (S.Sink.rest sink.new) }
@@ -61,8 +61,8 @@ fn write_both<T: ThreeSheets, S: Sink>(
     sink: &mut S,
     ajar: bool,
 ) -> bool
-    requires ours { All (Readable (T.ThreeSheets.sheets three.now)) left.now }
-    requires theirs { All (Readable (T.ThreeSheets.sheets three.now)) right.now }
+    requires ours { AllByRecursion (Readable (T.ThreeSheets.sheets three.now)) left.now }
+    requires theirs { AllByRecursion (Readable (T.ThreeSheets.sheets three.now)) right.now }
     requires room { Room (state (S.Sink.value sink.old) (S.Sink.taken sink.old) (S.Sink.announced sink.old) ajar) (both_steps (T.ThreeSheets.sheets three.now) front.now left.now right.now) }
     ensures written { (state (S.Sink.value sink.new) (S.Sink.taken sink.new) (S.Sink.announced sink.new) result) ≡ after S.Sink.rule (state (S.Sink.value sink.old) (S.Sink.taken sink.old) (S.Sink.announced sink.old) ajar) (both_steps (T.ThreeSheets.sheets three.now) front.now left.now right.now) }
     ensures kept { Keeps (S.Sink.fresh sink.old) (S.Sink.fresh sink.new) (S.Sink.capacity sink.old) (S.Sink.capacity sink.new) (S.Sink.taken sink.old) (S.Sink.taken sink.new) (S.Sink.rest sink.old) (S.Sink.rest sink.new) }
@@ -104,10 +104,10 @@ pub fn write_union<T: ThreeSheets, S: Sink>(
     sink: &mut S,
     ajar: bool,
 ) -> bool
-    requires ahead { All (Readable (T.ThreeSheets.sheets three.now)) front.now }
-    requires ours { All (Readable (T.ThreeSheets.sheets three.now)) left.now }
-    requires theirs { All (Readable (T.ThreeSheets.sheets three.now)) right.now }
-    requires behind { All (Readable (T.ThreeSheets.sheets three.now)) back.now }
+    requires ahead { AllByRecursion (Readable (T.ThreeSheets.sheets three.now)) front.now }
+    requires ours { AllByRecursion (Readable (T.ThreeSheets.sheets three.now)) left.now }
+    requires theirs { AllByRecursion (Readable (T.ThreeSheets.sheets three.now)) right.now }
+    requires behind { AllByRecursion (Readable (T.ThreeSheets.sheets three.now)) back.now }
     requires room { Room (state (S.Sink.value sink.old) (S.Sink.taken sink.old) (S.Sink.announced sink.old) ajar) (union_steps (T.ThreeSheets.sheets three.now) (sides_of front.now left.now right.now back.now)) }
     ensures written { (state (S.Sink.value sink.new) (S.Sink.taken sink.new) (S.Sink.announced sink.new) result) ≡ after S.Sink.rule (state (S.Sink.value sink.old) (S.Sink.taken sink.old) (S.Sink.announced sink.old) ajar) (union_steps (T.ThreeSheets.sheets three.now) (sides_of front.now left.now right.now back.now)) }
     ensures kept { Keeps (S.Sink.fresh sink.old) (S.Sink.fresh sink.new) (S.Sink.capacity sink.old) (S.Sink.capacity sink.new) (S.Sink.taken sink.old) (S.Sink.taken sink.new) (S.Sink.rest sink.old) (S.Sink.rest sink.new) }

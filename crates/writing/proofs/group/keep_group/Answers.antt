@@ -1,5 +1,5 @@
 use Rattle.std.proofs.Common.{◌≡◌, ◌≤◌, List, ◌++◌, length, sym, ap, ◌∙◌, subst, ap₂}
-use Rattle.std.specs.List.{AllByRecursion as All}
+use Rattle.std.specs.List.{AllByRecursion}
 use Rattle.rules.specs.declared.hunk.Hunk.{Hunk}
 use Rattle.rules.specs.Limits.{max_filled}
 use Rattle.rules.specs.Walk.{is_current}
@@ -40,10 +40,10 @@ write_keep-requires g c =
       within = c.requires.within;
       size = c.requires.size;
       few = (subst (λ (z : List Hunk). length z ≤ max_filled) (sym c.as_slice-left.ensures) (held_few f.new.ours), subst (λ (z : List Hunk). length z ≤ max_filled) (sym c.as_slice-right.ensures) (held_few f.new.theirs));
-      ahead = subst (All (Readable s)) (sym ef) q.front;
-      ours = subst (All (Readable s)) (sym el) q.left;
-      theirs = subst (All (Readable s)) (sym er) q.right;
-      behind = subst (All (Readable s)) (sym eb) q.back;
+      ahead = subst (AllByRecursion (Readable s)) (sym ef) q.front;
+      ours = subst (AllByRecursion (Readable s)) (sym el) q.left;
+      theirs = subst (AllByRecursion (Readable s)) (sym er) q.right;
+      behind = subst (AllByRecursion (Readable s)) (sym eb) q.back;
       room = subst (Room (state (g.S.Sink.value v) (g.S.Sink.taken v) (g.S.Sink.announced v) c.args.ajar)) (sym e) c.requires.room;
     }
 

@@ -1,5 +1,5 @@
 use Rattle.std.proofs.Common.{◌≤◌, List, length, sym, ◌∙◌, subst, ap₂}
-use Rattle.std.specs.List.{AllByRecursion as All}
+use Rattle.std.specs.List.{AllByRecursion}
 use Rattle.rules.specs.declared.hunk.Hunk.{Hunk}
 use Rattle.rules.specs.Limits.{max_filled}
 use Rattle.rules.specs.Contraction.{Readable}
@@ -14,8 +14,8 @@ hunks_differ-requires g c =
     let er = c.as_slice-right.ensures in
     record {
       few = (subst (λ (z : List Hunk). length z ≤ max_filled) (sym el) (held_few c.args.ours.now), subst (λ (z : List Hunk). length z ≤ max_filled) (sym er) (held_few c.args.theirs.now));
-      ours = subst (All (Readable s)) (sym el) c.requires.ours;
-      theirs = subst (All (Readable s)) (sym er) c.requires.theirs;
+      ours = subst (AllByRecursion (Readable s)) (sym el) c.requires.ours;
+      theirs = subst (AllByRecursion (Readable s)) (sym er) c.requires.theirs;
     }
 
 pub returns : goal.returns

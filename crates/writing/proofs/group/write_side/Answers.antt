@@ -1,5 +1,5 @@
 use Rattle.std.proofs.Common.{List, sym, ap, ◌∙◌, subst}
-use Rattle.std.specs.List.{AllByRecursion as All}
+use Rattle.std.specs.List.{AllByRecursion}
 use Rattle.rules.specs.declared.hunk.Hunk.{Hunk}
 use Rattle.rules.specs.Contraction.{Readable}
 use Rattle.rules.specs.Hunks.{side_lines}
@@ -14,7 +14,7 @@ write_hunks-requires g c =
     let e = c.as_slice-hunks.ensures in
     let v = c.args.sink.now in
     record {
-      readable = subst (All (Readable s)) (sym e) c.requires.readable;
+      readable = subst (AllByRecursion (Readable s)) (sym e) c.requires.readable;
       room = subst (λ (z : List Hunk). Room (state (g.S.Sink.value v) (g.S.Sink.taken v) (g.S.Sink.announced v) c.args.ajar) (each common (side_lines s z))) (sym e) c.requires.room;
     }
 
