@@ -17,6 +17,10 @@ BY_HAND = {
     "T_of": "T_of",
 }
 
+# Names that a definition or a proof binds, or an import gives by `as`.
+BOUND = """may-lack line-c line-e line-o not-nil few-cs few-os blk-good mid-good mid-differ some-held hunk-row list-row ruled-answer
+ruled-answers""".split()
+
 PRIME = "\u2032"
 TOKEN = re.compile(r"[^\s(){}\[\],;.\u27e6\u27e7\u231c\u231d`\"]+")
 HEAD = re.compile(r"^(\s*)((?:(?:abbrev|unfoldable|pub|mutual|infixl|infixr|infix|\d+)\s+)*)(\S+)((?:\s+(?:\([^:()]*:[^()]*\)|\{[^{}]*\}))*)\s*:(?:\s|$)")
@@ -82,7 +86,7 @@ def respelled(name):
 
 def renames():
     kinds, goals = declared()
-    table = {}
+    table = {name: (respelled(name), {"bound"}) for name in BOUND}
     for name, kind in kinds.items():
         if name in goals or name.startswith(("invariant-", "decreases-", "ghost-", "μ-", "Inv-")):
             continue

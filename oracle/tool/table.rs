@@ -63,7 +63,7 @@ fn write_case(text: &mut String, case: &Case) {
     for answer in &case.answers {
         let law = format!("{name}-{}", answer.mode.name());
         let mode = mode(answer.mode, case.marker_size.get());
-        let rendering = format!("all-bytes (rendering {mode} {sheets} {labels} {currents} {others})");
+        let rendering = format!("all_bytes (rendering {mode} {sheets} {labels} {currents} {others})");
         equation(format!("{law}-bytes"), rendering, &bytes(&answer.bytes));
         let verdict = format!("verdict {mode} {sheets} {currents} {others}");
         equation(format!("{law}-verdict"), verdict, answer.verdict.name());

@@ -101,17 +101,17 @@ module _ (s : Sheets) (side : Side) (hs ms : List Hunk) (m a b : ℕ) (is : ms �
   side_readable = filled_readable s side 0 0 a b ms in_range (subst (InOrder side (length s.ancestor) (length (sheet_of s side)) 0 0) (sym is) (order_take side (length s.ancestor) (length (sheet_of s side)) 0 0 m hs kept))
 
 pub ready : (s : Sheets) (cs os : List Hunk) → Kept s cs os → length cs ≤ max_hunks → length os ≤ max_hunks → (x : NextCluster) (n : Next cs os x) → Ready s cs os x n.takes.cluster
-ready s cs os kept few-cs few-os x n = record {
+ready s cs os kept few_cs few_os x n = record {
   starts = starts;
   ends = ends;
   forward = subst (λ (p : ℕ). p ≤ x.range.end) (sym starts) (subst (λ (p : ℕ). from k ≤ p) (sym ends) forward);
   within = subst (λ (p : ℕ). p ≤ length s.ancestor) (sym ends) in_range;
   ours = ap₂ (λ (a b : ℕ). filled a b (take x.current cs)) starts ends ∙ ap (filled (from k) (to k)) (sym t.ours);
   theirs = ap₂ (λ (a b : ℕ). filled a b (take x.other os)) starts ends ∙ ap (filled (from k) (to k)) (sym t.theirs);
-  few_ours = side_few s Current cs (currents (members k)) x.current (from k) (to k) t.ours t.our_bound few-cs in_range kept.current;
-  few_theirs = side_few s Other os (others (members k)) x.other (from k) (to k) t.theirs t.their_bound few-os in_range kept.other;
-  ours_readable = side_readable s Current cs (currents (members k)) x.current (from k) (to k) t.ours t.our_bound few-cs in_range kept.current;
-  theirs_readable = side_readable s Other os (others (members k)) x.other (from k) (to k) t.theirs t.their_bound few-os in_range kept.other;
+  few_ours = side_few s Current cs (currents (members k)) x.current (from k) (to k) t.ours t.our_bound few_cs in_range kept.current;
+  few_theirs = side_few s Other os (others (members k)) x.other (from k) (to k) t.theirs t.their_bound few_os in_range kept.other;
+  ours_readable = side_readable s Current cs (currents (members k)) x.current (from k) (to k) t.ours t.our_bound few_cs in_range kept.current;
+  theirs_readable = side_readable s Other os (others (members k)) x.other (from k) (to k) t.theirs t.their_bound few_os in_range kept.other;
   side = lead;
   our_first = λ e. head_of k.first (currents k.more) cs x.current (sym (cond-true (is_current k.first.side) (k.first ∷ currents k.more) (currents k.more) (ap is_current (sym lead ∙ e))) ∙ t.ours);
   their_first = λ e. head_of k.first (others k.more) os x.other (sym (cond-true (is_other k.first.side) (k.first ∷ others k.more) (others k.more) (ap is_other (sym lead ∙ e))) ∙ t.theirs);

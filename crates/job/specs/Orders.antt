@@ -90,9 +90,9 @@ read_row line = and_then (front_side line) row_order
 -- Three numbers with a space between them: of the ancestor, the current and the other sheet.
 abbrev pub read_open : List ℕ → Option Order
 read_open line =
-    and_then (number_then (codes " ") line) (λ a line-c.
-    and_then (number_then (codes " ") line-c) (λ c line-o.
-    option_map (open_by a c) (last_number line-o)))
+    and_then (number_then (codes " ") line) (λ a line_c.
+    and_then (number_then (codes " ") line_c) (λ c line_o.
+    option_map (open_by a c) (last_number line_o)))
 
 -- A hunk of a side by its two ranges.
 abbrev pub hunk_of : Side → ℕ → ℕ → ℕ → ℕ → Hunk
@@ -100,8 +100,8 @@ hunk_of side b e start end = record { before = record { start = b; end = e }; af
 
 abbrev pub hunk_order : Side → List ℕ → Option Order
 hunk_order side line =
-    and_then (number_then (codes "..") line) (λ b line-e.
-    and_then (number_then (codes "/") line-e) (λ e line_after.
+    and_then (number_then (codes "..") line) (λ b line_e.
+    and_then (number_then (codes "/") line_e) (λ e line_after.
     and_then (number_then (codes "..") line_after) (λ start line_end.
     option_map (λ end. enter (hunk_of side b e start end)) (last_number line_end))))
 

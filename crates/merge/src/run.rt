@@ -1,7 +1,7 @@
 //! A whole run of one unit: its opening, and then any calls, with its renders.
 ghost use Rattle.std.specs.Prelude.{◌≡◌, ℕ, ◌≤◌, List, ◌∷◌, map, Ok, slice_set};
 ghost use Rattle.rules.specs.RunAgreement.{AgreementOverRuns};
-ghost use Rattle.rules.specs.Runs.{Call as RulesCall, opening, opened_as, after_call, after_calls, after_run, answer as ruled-answer, answers as ruled-answers};
+ghost use Rattle.rules.specs.Runs.{Call as RulesCall, opening, opened_as, after_call, after_calls, after_run, answer as ruled_answer, answers as ruled_answers};
 ghost use Rattle.hunks.specs.Tables.{model};
 ghost use Rattle.reading.specs.Three.{three_lists};
 ghost use Rattle.merge.specs.Asking.{sink_at};
@@ -75,11 +75,11 @@ pub fn run<'a, A: Sheet, C: Sheet, O: Sheet, S: Sink>(
     answers: &mut [Answer],
     sink: &mut S,
 ) -> Result<(), TableRefusal>
-    ensures opened { opened_as result ≡ ruled-answer (model table.old) (opening (three_lists (A.Sheet.sheet ancestor.now) (C.Sheet.sheet current.now) (O.Sheet.sheet other.now))) }
+    ensures opened { opened_as result ≡ ruled_answer (model table.old) (opening (three_lists (A.Sheet.sheet ancestor.now) (C.Sheet.sheet current.now) (O.Sheet.sheet other.now))) }
     ensures accepted { result ≡ Ok tt }
     ensures table { model table.new ≡ after_calls (model table.old) (run_in (three_lists (A.Sheet.sheet ancestor.now) (C.Sheet.sheet current.now) (O.Sheet.sheet other.now)) (S.Sink.capacity sink.old) calls.now) }
     ensures noted { answers.new ≡ written_over (answers_to (three_lists (A.Sheet.sheet ancestor.now) (C.Sheet.sheet current.now) (O.Sheet.sheet other.now)) (S.Sink.capacity sink.old) (after_call (model table.old) (opening (three_lists (A.Sheet.sheet ancestor.now) (C.Sheet.sheet current.now) (O.Sheet.sheet other.now)))) calls.now) answers.old }
-    ensures answers { opened_as result ∷ map answer_in (answers_to (three_lists (A.Sheet.sheet ancestor.now) (C.Sheet.sheet current.now) (O.Sheet.sheet other.now)) (S.Sink.capacity sink.old) (after_call (model table.old) (opening (three_lists (A.Sheet.sheet ancestor.now) (C.Sheet.sheet current.now) (O.Sheet.sheet other.now)))) calls.now) ≡ ruled-answers (model table.old) (run_in (three_lists (A.Sheet.sheet ancestor.now) (C.Sheet.sheet current.now) (O.Sheet.sheet other.now)) (S.Sink.capacity sink.old) calls.now) }
+    ensures answers { opened_as result ∷ map answer_in (answers_to (three_lists (A.Sheet.sheet ancestor.now) (C.Sheet.sheet current.now) (O.Sheet.sheet other.now)) (S.Sink.capacity sink.old) (after_call (model table.old) (opening (three_lists (A.Sheet.sheet ancestor.now) (C.Sheet.sheet current.now) (O.Sheet.sheet other.now)))) calls.now) ≡ ruled_answers (model table.old) (run_in (three_lists (A.Sheet.sheet ancestor.now) (C.Sheet.sheet current.now) (O.Sheet.sheet other.now)) (S.Sink.capacity sink.old) calls.now) }
     ensures sink { sink_at (S.Sink.announced sink.new) (S.Sink.taken sink.new) (S.Sink.value sink.new) ≡ sink_after S.Sink.rule (S.Sink.fresh sink.old) (model table.old) (run_in (three_lists (A.Sheet.sheet ancestor.now) (C.Sheet.sheet current.now) (O.Sheet.sheet other.now)) (S.Sink.capacity sink.old) calls.now) (sink_at (S.Sink.announced sink.old) (S.Sink.taken sink.old) (S.Sink.value sink.old)) }
     ensures fresh { S.Sink.fresh sink.new ≡ S.Sink.fresh sink.old }
     ensures capacity { S.Sink.capacity sink.new ≡ S.Sink.capacity sink.old }

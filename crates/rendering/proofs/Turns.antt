@@ -70,11 +70,11 @@ pub record Turn (m : modes.Conflict) (s : Sheets) (l : Labels) (since : ℕ) (cs
   pub fewer : length (rest_of x.current cs) + length (rest_of x.other os) < length cs + length os
 
 pub turn : (m : modes.Conflict) (s : Sheets) (l : Labels) (since : ℕ) (cs os : List Hunk) → Kept s cs os → length cs ≤ max_hunks → length os ≤ max_hunks → (x : NextCluster) → Next cs os x → Turn m s l since cs os x
-turn m s l since cs os kept few-cs few-os x n = record {
+turn m s l since cs os kept few_cs few_os x n = record {
   start = (let a = r.forward in let b = r.within in omega arith);
   within = r.within;
-  few_ours = few_taken x.current cs n.takes.our_bound few-cs;
-  few_theirs = few_taken x.other os n.takes.their_bound few-os;
+  few_ours = few_taken x.current cs n.takes.our_bound few_cs;
+  few_theirs = few_taken x.other os n.takes.their_bound few_os;
   ours = order_readable s Current 0 0 (take x.current cs) t.current;
   ours_in = subst (AllByRecursion (Readable s)) (sym r.ours) r.ours_readable;
   theirs = order_readable s Other 0 0 (take x.other os) t.other;
@@ -97,7 +97,7 @@ turn m s l since cs os kept few-cs few-os x n = record {
     k = n.takes.cluster
 
     r : Ready s cs os x k
-    r = ready s cs os kept few-cs few-os x n
+    r = ready s cs os kept few_cs few_os x n
 
     e : Left s cs os x k
     e = left s cs os kept x n

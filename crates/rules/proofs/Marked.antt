@@ -143,10 +143,10 @@ module _ (st : ConflictStyle) (n : ℕ) (l : Labels) (s : Sheets) where
       let agr = agreed_steps st s d.left in
       let mid = cond (blocked st s d.left d.right) blk agr in
       let eb = each common (side_lines s d.back) in
-      let blk-good : Good st n l es out blk out = subst (λ (x : Ending). Good st n l es out (block_steps st s n l x (from k) (to k) d.left d.right) out) (sym w) (block_by k d e) in
-      let mid-good : Good st n l (cond (blocked st s d.left d.right) es []) out mid out = good_either st n l es [] out out (blocked st s d.left d.right) blk agr blk-good (agreed_good d) in
-      let mid-differ : Good st n l (cond (sides_differ s k) es []) out mid out = subst (λ (b : Bool). Good st n l (cond b es []) out mid out) (blocked_is st s k fit) mid-good in
-      let tail : Good st n l (cond (sides_differ s k) es [] ++ []) out (mid ++ eb) out = good_on st n l (cond (sides_differ s k) es []) [] out out out mid eb mid-differ (commons st n l (side_lines s d.back)) in
+      let blk_good : Good st n l es out blk out = subst (λ (x : Ending). Good st n l es out (block_steps st s n l x (from k) (to k) d.left d.right) out) (sym w) (block_by k d e) in
+      let mid_good : Good st n l (cond (blocked st s d.left d.right) es []) out mid out = good_either st n l es [] out out (blocked st s d.left d.right) blk agr blk_good (agreed_good d) in
+      let mid_differ : Good st n l (cond (sides_differ s k) es []) out mid out = subst (λ (b : Bool). Good st n l (cond b es []) out mid out) (blocked_is st s k fit) mid_good in
+      let tail : Good st n l (cond (sides_differ s k) es [] ++ []) out (mid ++ eb) out = good_on st n l (cond (sides_differ s k) es []) [] out out out mid eb mid_differ (commons st n l (side_lines s d.back)) in
       good_on st n l [] (cond (sides_differ s k) es []) out out out (each common (side_lines s d.front)) (mid ++ eb) (commons st n l (side_lines s d.front))
       (subst (λ (xs : List Ending). Good st n l xs out (mid ++ eb) out) (append-nil (cond (sides_differ s k) es [])) tail)
 

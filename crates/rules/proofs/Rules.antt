@@ -120,8 +120,8 @@ sided_law t side s (x ∷ xs) e =
     let (gs, g, f) = front_of x xs in
     let w : held_of t side ≡ gs ++ (g ∷ []) = e ∙ f in
     let n : length (held_of t side) - 1 ≡ length gs = ap (λ (l : List Hunk). length l - 1) w ∙ short gs g in
-    let some-held : 0 < length (held_of t side) = rw e (omega arith) in
-    let q : withdraw_questions t side ≡ None = then_yes (has_hunks side) _ _ s (then_yes (ltb 0 (length (held_of t side))) _ None (lt-ltb 0 (length (held_of t side)) some-held) refl) in
+    let some_held : 0 < length (held_of t side) = rw e (omega arith) in
+    let q : withdraw_questions t side ≡ None = then_yes (has_hunks side) _ _ s (then_yes (ltb 0 (length (held_of t side))) _ None (lt-ltb 0 (length (held_of t side)) some_held) refl) in
     let less = without_last (held_of t side) in
     inl (gs, g, w, ap₂ (λ (r : Option TableRefusal) (i : ℕ). answered r i) q n, ap (λ (r : Option TableRefusal). changed r (holding t side less) t) q ∙ ap (holding t side) (ap₂ take n w ∙ take_at gs (g ∷ []) (length gs) refl))
 
@@ -243,8 +243,8 @@ taken_back t side h e =
     let u = holding t side (hs ++ (h ∷ [])) in
     let w : held_of u side ≡ hs ++ (h ∷ []) = held_holding t side (hs ++ (h ∷ [])) e in
     let n : length (held_of u side) - 1 ≡ length hs = ap (λ (l : List Hunk). length l - 1) w ∙ short hs h in
-    let some-held : 0 < length (held_of u side) = rw w (rw (length-append hs (h ∷ [])) (omega arith)) in
-    let q : withdraw_questions u side ≡ None = then_yes (has_hunks side) _ _ (sided_two side e) (then_yes (ltb 0 (length (held_of u side))) _ None (lt-ltb 0 (length (held_of u side)) some-held) refl) in
+    let some_held : 0 < length (held_of u side) = rw w (rw (length-append hs (h ∷ [])) (omega arith)) in
+    let q : withdraw_questions u side ≡ None = then_yes (has_hunks side) _ _ (sided_two side e) (then_yes (ltb 0 (length (held_of u side))) _ None (lt-ltb 0 (length (held_of u side)) some_held) refl) in
     let less = without_last (held_of u side) in
     ap (λ (r : Option TableRefusal). changed r (holding u side less) u) q ∙ ap (holding u side) (ap₂ take n w ∙ take_at hs (h ∷ []) (length hs) refl) ∙ holding_back t side (hs ++ (h ∷ []))
 

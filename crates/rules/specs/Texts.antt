@@ -26,9 +26,9 @@ nth_line (l ∷ ls) (suc n) = nth_line ls n
 
 -- A line is not empty and has a newline only as its last byte; it may lack the newline only where it may be open.
 abbrev pub is_line : Bool → Line → Bool
-is_line may-lack [] = false
-is_line may-lack (b ∷ []) = cond (b == 10) true may-lack
-is_line may-lack (b ∷ (c ∷ bs)) = cond (b == 10) false (is_line may-lack (c ∷ bs))
+is_line may_lack [] = false
+is_line may_lack (b ∷ []) = cond (b == 10) true may_lack
+is_line may_lack (b ∷ (c ∷ bs)) = cond (b == 10) false (is_line may_lack (c ∷ bs))
 
 -- Lines of which only the last may lack its newline.
 abbrev pub are_lines : List Line → Bool

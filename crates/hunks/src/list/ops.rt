@@ -1,8 +1,8 @@
 ghost use Rattle.std.specs.Prelude.{◌≡◌, ℕ, ◌+◌, false, [], length, take, drop, nat_le, nat_lt};
 ghost use Rattle.hunks.specs.Lists.{held, pushed, pushed_all, pointed, with_hunk};
-ghost use Rattle.hunks.specs.contracts.list.HunkList.{the_row as list-row};
+ghost use Rattle.hunks.specs.contracts.list.HunkList.{the_row as list_row};
 ghost use Rattle.rules.specs.Tables.{last_of, without_last};
-ghost use Rattle.rules.specs.contracts.hunk.Hunk.{the_row as hunk-row};
+ghost use Rattle.rules.specs.contracts.hunk.Hunk.{the_row as hunk_row};
 ghost use Rattle.std.specs.List.{slice_get};
 ghost use Rattle.std.specs.Borrow.{follows_if, sem};
 ghost use Rattle.std.specs.Option.{ghost_name_of as name_of};
@@ -131,7 +131,7 @@ impl<const N: usize> HunkList<N> {
 
     /// Lends hunk i, or nothing past the last; the others stay.
     pub fn lend(&mut self, i: usize) -> Option<&mut Hunk>
-        ensures* writes_back { sem 𝓛 (follows_if (list-row N.row) hunk-row self.entry.ghost_name (name_of result) (λ w. with_hunk self.old i w) self.old) }
+        ensures* writes_back { sem 𝓛 (follows_if (list_row N.row) hunk_row self.entry.ghost_name (name_of result) (λ w. with_hunk self.old i w) self.old) }
         ensures lent { pointed result ≡ slice_get (held self.old) i }
     {
         if i < self.len {
