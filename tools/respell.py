@@ -18,7 +18,7 @@ BY_HAND = {
 }
 
 # Names that a definition or a proof binds, or an import gives by `as`.
-BOUND = """may-lack line-c line-e line-o not-nil few-cs few-os blk-good mid-good mid-differ some-held hunk-row list-row ruled-answer
+BOUND = """may-lack line-c line-e line-o few-cs few-os blk-good mid-good mid-differ some-held hunk-row list-row ruled-answer
 ruled-answers""".split()
 
 PRIME = "\u2032"

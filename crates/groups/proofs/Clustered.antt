@@ -95,7 +95,7 @@ kept_mem p (x ∷ xs) g m =
 in_walk : (cs os : List Hunk) → KeptHunks cs os → (s : Side) (g : Hunk) → Memᴰ g (facing_of s cs os) → Memᴰ g (walk cs os)
 in_walk cs os kept Current g m = kept_mem (λ h. is_other h.side) (walk cs os) g (subst (Memᴰ g) (sym (others_walk cs os 0 0 (our_run cs os kept) (their_run cs os kept))) m)
 in_walk cs os kept Other g m = kept_mem (λ h. is_current h.side) (walk cs os) g (subst (Memᴰ g) (sym (currents_walk cs os 0 0 (our_run cs os kept) (their_run cs os kept))) m)
-in_walk cs os kept Ancestor g m = absurd (mathlib.Core.List.Memᴰ.not_nil m)
+in_walk cs os kept Ancestor g m = absurd (mathlib.Core.List.Memᴰ.not-nil m)
 
 module _ (cs os : List Hunk) (kept : KeptHunks cs os) (first : Hunk) (lead : slice_get (walk cs os) 0 ≡ Some first) where
   -- A cluster whose first hunk touches one of the facing side is a group.

@@ -40,7 +40,7 @@ pub behind_joined : (b : Side → ℕ) (ms : List Hunk) (h : Hunk) → Sided h.s
 behind_joined b ms h p q old g m = ⊎_elim (λ (n : Memᴰ g ms). behind_next b h g (old g n)) (λ (n : Memᴰ g (h ∷ [])). behind_alone b h p q g n) (Memᴰ.append_cases ms m)
 
 cut_from : (b : Side → ℕ) (k : Cluster) (hs : List Hunk) → Woven b hs → ((g : Hunk) → Memᴰ g (members k) → Behind b g) → Cut (clusters_from k hs)
-cut_from b k [] w old = (λ g h m n. absurd (Memᴰ.not_nil n), tt)
+cut_from b k [] w old = (λ g h m n. absurd (Memᴰ.not-nil n), tt)
 cut_from b k (h ∷ hs) w old = cond_both (touches_any h (members k)) (clusters_from (joined k h) hs) (k ∷ clusters_from (alone h) hs) Cut
     (λ e. cut_from (next b h) (joined k h) hs w.3 (behind_joined b (members k) h w.0 w.2 old))
     (λ e. (λ g x m n. behind g x m (subst (λ (l : List Hunk). Memᴰ x l) (parted_from (alone h) hs) n) e, cut_from (next b h) (alone h) hs w.3 (behind_alone b h w.0 w.2)))
@@ -66,14 +66,14 @@ apart_touch : (g h : Hunk) → g.before.end < h.before.start → T (touches g h)
 apart_touch g h lt t = true≢false (sym (T_to (touches g h) t) ∙ touches_sym g h ∙ untouched g h lt)
 
 pub in_all : (ks : List Cluster) (k : Cluster) → Memᴰ k ks → (g : Hunk) → Memᴰ g (members k) → Memᴰ g (all_members ks)
-in_all [] k mk g mg = absurd (Memᴰ.not_nil mk)
+in_all [] k mk g mg = absurd (Memᴰ.not-nil mk)
 in_all (x ∷ xs) k mk g mg = ⊎_elim
     (λ (q : k ≡ x). Memᴰ.append_left (all_members xs) (subst (λ (y : Cluster). Memᴰ g (members y)) q mg))
     (λ (n : Memᴰ k xs). Memᴰ.append_right (members x) (in_all xs k n g mg))
     (Memᴰ.cases_cons mk)
 
 apart_in : (ks : List Cluster) → Cut ks → (k : Cluster) → Memᴰ k ks → (g h : Hunk) → Memᴰ g (members k) → Memᴰ h (all_members ks) → T (touches g h) → Memᴰ h (members k)
-apart_in [] c k mk g h mg mh t = absurd (Memᴰ.not_nil mk)
+apart_in [] c k mk g h mg mh t = absurd (Memᴰ.not-nil mk)
 apart_in (x ∷ xs) c k mk g h mg mh t = ⊎_elim
     (λ (q : k ≡ x). ⊎_elim
     (λ (m : Memᴰ h (members x)). subst (λ (y : Cluster). Memᴰ h (members y)) (sym q) m)
@@ -122,7 +122,7 @@ joined_from all k (h ∷ hs) sub c = cond_both (touches_any h (members k)) (clus
     (λ e x m. ⊎_elim (λ (q : x ≡ k). subst (Joined all) (sym q) c) (λ (n : Memᴰ x (clusters_from (alone h) hs)). joined_from all (alone h) hs (λ g m. sub g (Memᴰ.tail m)) (joined_alone all h (sub h (Memᴰ.head refl))) x n) (Memᴰ.cases_cons m))
 
 chained : (hs : List Hunk) (k : Cluster) → Memᴰ k (clusters hs) → Joined hs k
-chained [] k m = absurd (Memᴰ.not_nil m)
+chained [] k m = absurd (Memᴰ.not-nil m)
 chained (h ∷ hs) k m = joined_from (h ∷ hs) (alone h) hs (λ g n. Memᴰ.tail n) (joined_alone (h ∷ hs) h (Memᴰ.head refl)) k m
 
 -- groups and lone hunks

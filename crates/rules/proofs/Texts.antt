@@ -48,7 +48,7 @@ linked_from k (h ∷ hs) link = cond_both (touches_any h (members k)) (clusters_
     (λ e x m. ⊎_elim (λ (q : x ≡ k). subst Linked (sym q) link) (λ (n : Memᴰ x (clusters_from (alone h) hs)). linked_from (alone h) hs (λ q. absurd (true≢false (sym q))) x n) (mathlib.Core.List.Memᴰ.cases_cons m))
 
 linked : (hs : List Hunk) (k : Cluster) → Memᴰ k (clusters hs) → Linked k
-linked [] k m = absurd (mathlib.Core.List.Memᴰ.not_nil m)
+linked [] k m = absurd (mathlib.Core.List.Memᴰ.not-nil m)
 linked (h ∷ hs) k m = linked_from (alone h) hs (λ q. absurd (true≢false (sym q))) k m
 
 not_itself : (s : Side) → opposite s s ≡ false
@@ -156,7 +156,7 @@ low_chosen f n (k ∷ ks) l =
     low_append n (chosen f k) (all_chosen f ks) (cond_both (is_group k) (picked f (members k)) (k.first ∷ []) (Low n) (λ _. low_kept (λ h. f h.side) n (members k) p) (λ _. (p.0, tt))) (low_chosen f n ks q)
 
 pub last_end_above : (ms : List Hunk) (h : Hunk) → Memᴰ h ms → h.before.end ≤ last_end ms
-last_end_above [] h m = absurd (mathlib.Core.List.Memᴰ.not_nil m)
+last_end_above [] h m = absurd (mathlib.Core.List.Memᴰ.not-nil m)
 last_end_above (x ∷ xs) h m = ⊎_elim (λ (q : h ≡ x). subst (λ (y : Hunk). y.before.end ≤ last_end (x ∷ xs)) (sym q) (omega arith)) (λ (i : Memᴰ h xs). omega (arith, last_end_above xs h i)) (mathlib.Core.List.Memᴰ.cases_cons m)
 
 pub last_end_below : (ms : List Hunk) (n : ℕ) → ((h : Hunk) → Memᴰ h ms → h.before.end ≤ n) → last_end ms ≤ n

@@ -22,11 +22,11 @@ all_of P (x ∷ xs) f = (f x (Memᴰ.head refl), all_of P xs (λ y m. f y (Mem�
 
 -- what a run says of each of its hunks
 pub run_low : (side : Side) (n : ℕ) (hs : List Hunk) → Run side n hs → (h : Hunk) → Memᴰ h hs → n ≤ h.before.start
-run_low side n [] r h m = absurd (Memᴰ.not_nil m)
+run_low side n [] r h m = absurd (Memᴰ.not-nil m)
 run_low side n (x ∷ xs) r h m = ⊎_elim (λ (q : h ≡ x). rw q r.1) (λ (i : Memᴰ h xs). let b = run_low side (suc x.before.end) xs r.3 h i in omega arith) (Memᴰ.cases_cons m)
 
 pub run_span : (side : Side) (n : ℕ) (hs : List Hunk) → Run side n hs → (h : Hunk) → Memᴰ h hs → h.before.start ≤ h.before.end
-run_span side n [] r h m = absurd (Memᴰ.not_nil m)
+run_span side n [] r h m = absurd (Memᴰ.not-nil m)
 run_span side n (x ∷ xs) r h m = ⊎_elim (λ (q : h ≡ x). rw q r.2) (λ (i : Memᴰ h xs). run_span side (suc x.before.end) xs r.3 h i) (Memᴰ.cases_cons m)
 
 run_lower : (side : Side) (m n : ℕ) (hs : List Hunk) → m ≤ n → Run side n hs → Run side m hs
@@ -40,7 +40,7 @@ run_kept p side n (h ∷ hs) r = cond_both (p h) (h ∷ filter p hs) (filter p h
     (λ _. run_kept p side n hs (run_lower side n (suc h.before.end) hs (omega arith) r.3))
 
 mem_kept : (p : Hunk → Bool) (hs : List Hunk) (h : Hunk) → Memᴰ h (filter p hs) → (p h ≡ true)
-mem_kept p [] h = λ m. absurd (Memᴰ.not_nil m)
+mem_kept p [] h = λ m. absurd (Memᴰ.not-nil m)
 mem_kept p (x ∷ xs) h = cond_both (p x) (x ∷ filter p xs) (filter p xs) (λ l. Memᴰ h l → p h ≡ true)
     (λ e m. ⊎_elim (λ (q : h ≡ x). ap p q ∙ e) (λ (i : Memᴰ h (filter p xs)). mem_kept p xs h i) (Memᴰ.cases_cons m))
     (λ _ m. mem_kept p xs h m)
@@ -117,7 +117,7 @@ others_part [] m n rc ro f = tt
 others_part (o ∷ os) m n rc ro f = (behind_run o Other os ro.3, others_part os m (suc o.before.end) tt ro.3 (λ c x i j. f c x i (Memᴰ.tail j)))
 
 from_part : (c : Hunk) (cs : List Hunk) → Parts cs → Parts (c ∷ cs)
-from_part c cs ih [] m n rc ro f = (walk_all (Behind c) cs [] (behind_run c Current cs rc.3) tt, ih [] (suc c.before.end) n rc.3 tt (λ x o i j. absurd (Memᴰ.not_nil j)))
+from_part c cs ih [] m n rc ro f = (walk_all (Behind c) cs [] (behind_run c Current cs rc.3) tt, ih [] (suc c.before.end) n rc.3 tt (λ x o i j. absurd (Memᴰ.not-nil j)))
 from_part c cs ih (o ∷ os) m n rc ro f = cond_both (leb c.before.start o.before.start) (c ∷ walk cs (o ∷ os)) (o ∷ walk (c ∷ cs) os) (InTurn Behind)
     (λ e. let le = leb-true c.before.start o.before.start e in
     let ro' : Run Other o.before.start (o ∷ os) = (ro.0, omega arith, ro.2, ro.3) in (

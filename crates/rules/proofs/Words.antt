@@ -44,7 +44,7 @@ found s (k ∷ ks) e = ⊎_elim
     (or_cases (is_group k && sides_differ s k) (some_group_differs s ks) e)
 
 given : (s : Sheets) (ks : List Cluster) (k : Cluster) → Memᴰ k ks → is_group k ≡ true → sides_differ s k ≡ true → some_group_differs s ks ≡ true
-given s [] k m g d = absurd (Memᴰ.not_nil m)
+given s [] k m g d = absurd (Memᴰ.not-nil m)
 given s (x ∷ xs) k m g d = ⊎_elim
     (λ (q : k ≡ x). or_left (is_group x && sides_differ s x) (some_group_differs s xs) (and_from (is_group x) (sides_differ s x) (ap is_group (sym q) ∙ g) (ap (sides_differ s) (sym q) ∙ d)))
     (λ (i : Memᴰ k xs). or_right (is_group x && sides_differ s x) (some_group_differs s xs) (given s xs k i g d))
@@ -69,7 +69,7 @@ union_verdict s cs os p =
 
 -- the sides of a group differ exactly when what is left of them does
 all_mem : {X : Type 0} (P : X → Type 0) (xs : List X) → AllByRecursion P xs → (x : X) → Memᴰ x xs → P x
-all_mem P [] a x m = absurd (Memᴰ.not_nil m)
+all_mem P [] a x m = absurd (Memᴰ.not-nil m)
 all_mem P (y ∷ ys) a x m = ⊎_elim (λ (e : x ≡ y). subst P (sym e) a.0) (λ (i : Memᴰ x ys). all_mem P ys a.1 x i) (Memᴰ.cases_cons m)
 
 module _ (s : Sheets) (cs os : List Hunk) (p : Kept s cs os) where

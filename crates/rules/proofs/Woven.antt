@@ -103,7 +103,7 @@ untouched g h lt = and_right (opposite h.side g.side) (leb h.before.start g.befo
 
 -- what a hunk touches of a list
 pub any_false : (h : Hunk) (ms : List Hunk) → touches_any h ms ≡ false → (g : Hunk) → Memᴰ g ms → touches h g ≡ false
-any_false h [] e g m = absurd (Memᴰ.not_nil m)
+any_false h [] e g m = absurd (Memᴰ.not-nil m)
 any_false h (x ∷ xs) e g m =
     ⊎_elim (λ (q : g ≡ x). subst (λ (y : Hunk). touches h y ≡ false) (sym q) (or_parts (touches h x) (touches_any h xs) e).0) (λ (n : Memᴰ g xs). any_false h xs (or_parts (touches h x) (touches_any h xs) e).1 g n) (Memᴰ.cases_cons m)
 
@@ -117,13 +117,13 @@ any_true h (x ∷ xs) e =
     ⊎_elim (λ (q : touches h x ≡ true). (x, Memᴰ.head refl, q)) (λ (q : touches_any h xs ≡ true). let (g, m, t) = any_true h xs q in (g, Memᴰ.tail m, t)) (or_cases (touches h x) (touches_any h xs) e)
 
 pub any_from : (h : Hunk) (ms : List Hunk) (g : Hunk) → Memᴰ g ms → touches h g ≡ true → touches_any h ms ≡ true
-any_from h [] g m t = absurd (Memᴰ.not_nil m)
+any_from h [] g m t = absurd (Memᴰ.not-nil m)
 any_from h (x ∷ xs) g m t =
     ⊎_elim (λ (q : g ≡ x). or_left (touches h x) (touches_any h xs) (subst (λ (y : Hunk). touches h y ≡ true) q t)) (λ (n : Memᴰ g xs). or_right (touches h x) (touches_any h xs) (any_from h xs g n t)) (Memᴰ.cases_cons m)
 
 -- every hunk of a walk starts at or behind what the bounds are behind
 pub woven_above : (b : Side → ℕ) (hs : List Hunk) (n : ℕ) → Woven b hs → ((s : Side) → n ≤ b s) → (h : Hunk) → Memᴰ h hs → n ≤ h.before.start
-woven_above b [] n w lo h m = absurd (Memᴰ.not_nil m)
+woven_above b [] n w lo h m = absurd (Memᴰ.not-nil m)
 woven_above b (x ∷ xs) n w lo h m =
     ⊎_elim (λ (q : h ≡ x). subst (λ (y : Hunk). n ≤ y.before.start) (sym q) (omega (arith, w.1, lo x.side))) (λ (k : Memᴰ h xs). woven_above (next b x) xs n w.3 (λ s. omega (arith, lo s)) h k) (Memᴰ.cases_cons m)
 
@@ -137,7 +137,7 @@ runs side na ns n a [] r = tt
 runs side na ns n a (h ∷ hs) r = (r.0, r.1, r.2, runs side na ns (suc h.before.end) h.after.end hs r.7)
 
 pub run_side : (side : Side) (n : ℕ) (hs : List Hunk) → Run side n hs → (h : Hunk) → Memᴰ h hs → h.side ≡ side
-run_side side n [] r h m = absurd (Memᴰ.not_nil m)
+run_side side n [] r h m = absurd (Memᴰ.not-nil m)
 run_side side n (x ∷ xs) r h m = ⊎_elim (λ (q : h ≡ x). ap (λ (y : Hunk). y.side) q ∙ r.0) (λ (i : Memᴰ h xs). run_side side (suc x.before.end) xs r.3 h i) (Memᴰ.cases_cons m)
 
 sided : (h : Hunk) (s : Side) → h.side ≡ s → Sided s → Sided h.side
