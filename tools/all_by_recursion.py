@@ -18,7 +18,10 @@ for folder, dirs, names in os.walk("crates"):
         if "AllByRecursion as All" not in text:
             continue
         text = text.replace("AllByRecursion as All", "AllByRecursion")
-        # the word alone, and not a lemma's name as All-append
-        text = re.sub(r"(?<![\w.'-])All(?![\w'-])", "AllByRecursion", text)
+        # the word alone, and not a lemma's name as All-append; a comment is prose
+        text = "".join(
+            line if line.lstrip().startswith(("--", "//")) else re.sub(r"(?<![\w.'-])All(?![\w'-])", "AllByRecursion", line)
+            for line in text.splitlines(keepends=True)
+        )
         with open(path, "w", encoding="utf-8") as f:
             f.write(text)

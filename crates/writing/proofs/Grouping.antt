@@ -21,7 +21,7 @@ use Rattle.hunks.proofs.Helds.{held_length}
 use Rattle.contract.proofs.Contracting.{readables}
 use Rattle.writing.specs.Sides.{sides_of, contracted_lists, lists_in, lists_differ, GroupsTold}
 
--- AllByRecursion four lists can be read.
+-- All four lists can be read.
 pub record Readables (s : Sheets) (d : Sides) : Type 0 where
   pub front : AllByRecursion (Readable s) d.front
   pub left : AllByRecursion (Readable s) d.left
