@@ -1,6 +1,8 @@
 -- Lines of a hunk, and of a list of hunks from a cursor on.
-use Rattle.std.proofs.Common.{◌≡◌, ℕ, zero, suc, ◌+◌, ◌-◌, ◌*◌, ◌<◌, ◌≤◌, List, [], ◌∷◌, ◌++◌, length, get_or, drop, Some, None, sym, refl, ap, ◌∙◌, arith, length-append, length-drop}
+use Rattle.std.proofs.Common.{◌≡◌, ℕ, zero, suc, ◌+◌, ◌-◌, ◌*◌, ◌<◌, ◌≤◌, List, [], ◌∷◌, ◌++◌, length, get_or, drop, Some, None, Option, sym, refl, ap, ◌∙◌, arith, length-append, length-drop}
+use Rattle.std.specs.Borrow.{Bor}
 use Rattle.std.specs.List.{AllByRecursion}
+use Rattle.std.specs.Option.{option_map, unwrap_or}
 use Rattle.std.proofs.lemmas.List.{at_drop_more, at_drop_all, length-take-le, get_or-take, get_or-drop, drop_all, drop_more}
 use Rattle.std.proofs.ByRecursion.{All-get_or}
 use Rattle.rules.specs.declared.hunk.Side.{Side}
@@ -15,15 +17,13 @@ use Rattle.reading.specs.Three.{AllFormed}
 use Rattle.rules.specs.Contraction.{Readable}
 use Rattle.reading.specs.Reading.{no_hunk}
 
-pub nth_some : (ls : List Line) (n : ℕ) (l : Line) → Some l ≡ nth_line ls n → l ≡ get_or ls n []
-nth_some [] n l e = let z : ◌≡◌ {A = ℕ} 0 1 = cc in absurd (omega arith)
-nth_some (x ∷ ls) zero l e = cc
-nth_some (x ∷ ls) (suc n) l e = nth_some ls n l e
-
-pub nth_none : (ls : List Line) (n : ℕ) → None ≡ nth_line ls n → [] ≡ get_or ls n []
-nth_none [] n e = refl
-nth_none (x ∷ ls) zero e = let z : ◌≡◌ {A = ℕ} 0 1 = cc in absurd (omega arith)
-nth_none (x ∷ ls) (suc n) e = nth_none ls n e
+-- What is shown of line n: its bytes, and none past the last.
+pub shown_or_none : (ls : List Line) (n : ℕ) (r : Option (Bor Line)) (none : Bor Line) → none.now ≡ [] → option_map (λ x. x.now) r ≡ nth_line ls n → (unwrap_or r none).now ≡ get_or ls n []
+shown_or_none [] n None none e p = e
+shown_or_none [] n (Some l) none e p = let z : ◌≡◌ {A = ℕ} 0 1 = cc in absurd (omega arith)
+shown_or_none (x ∷ ls) zero None none e p = let z : ◌≡◌ {A = ℕ} 0 1 = cc in absurd (omega arith)
+shown_or_none (x ∷ ls) zero (Some l) none e p = cc
+shown_or_none (x ∷ ls) (suc n) r none e p = shown_or_none ls n r none e p
 
 pub lines_are : (sd : Side) (s : Sheets) (h : Hunk) → lines_by s sd h ≡ between (sheet_of s sd) (read_range sd h).start (read_range sd h).end
 lines_are Current s h = refl
