@@ -1,6 +1,5 @@
 -- A cluster as it grows: the first i hunks of the current side and the first j of the other are taken.
 use Rattle.std.proofs.Common.{◌≡◌, ℕ, ◌+◌, ◌-◌, ◌<◌, ◌≤◌, Bool, true, false, List, [], ◌∷◌, ◌++◌, length, get_or, take, drop, sym, refl, ap, ◌∙◌, subst, ap₂, ⊎_elim, arith}
-use Rattle.std.specs.List.{slice_get}
 use Rattle.std.proofs.lemmas.List.Elements.{filter-append}
 use Rattle.std.proofs.lemmas.List.{append-nil, drop_more, take_more, length-drop, length-take-le}
 use Rattle.std.proofs.lemmas.Bool.{cond-true, cond-false}
@@ -8,17 +7,16 @@ use Rattle.rules.specs.declared.hunk.Hunk.{Hunk}
 use Rattle.rules.specs.declared.hunk.Side.{Side}
 use Rattle.rules.specs.declared.hunk.Side.TheVariants.{Current, Other}
 use Rattle.rules.specs.Hunks.{opposite, touches_any}
-use Rattle.rules.specs.Tables.{last_of}
 use Rattle.rules.specs.Walk.{walk, picked, currents, others, is_current, is_other}
 use Rattle.rules.specs.Groups.{Cluster, members, joined, clusters, clusters_from}
 use Rattle.rules.proofs.Chains.{alone}
 use Rattle.rules.proofs.Picked.{any_currents, any_others}
 use Rattle.rules.proofs.Woven.{Run}
 use Rattle.hunks.proofs.Helds.{no_hunk}
-use Rattle.groups.specs.Taking.{offers, taken, Taken}
+use Rattle.groups.specs.Taking.{taken, Taken}
 use Rattle.groups.proofs.Ordered.{run_at, run_gap, touch_ranges, front_one, touches_none}
 use Rattle.groups.proofs.Heads.{drop_head, lead_current, lead_other, head_is}
-use Rattle.groups.proofs.Offered.{offered, offered_is}
+use Rattle.groups.proofs.Offered.{offer, offer_is, offered, offered_is}
 
 pub record Growing (cs os : List Hunk) (i j : ℕ) : Type 0 where
   pub cluster : Cluster
@@ -65,9 +63,9 @@ module _ (cs os : List Hunk) (rc : Run Current 0 cs) (ro : Run Other 0 os) where
       ap (λ (l : List Hunk). walk l (drop j os)) (drop_more cs i no_hunk b)
       ∙ lead_current (get_or cs i no_hunk) (drop (i + 1) cs) (drop j os) (λ p. let l = length-drop j os in subst (λ (h : Hunk). (get_or cs i no_hunk).before.start ≤ h.before.start) (sym (drop_head os j)) (f (omega arith)))
 
-  pub grow_other : (i j : ℕ) → Growing cs os i j → true ≡ offers (slice_get os j) (last_of (take i cs)) → Growing cs os i (j + 1)
+  pub grow_other : (i j : ℕ) → Growing cs os i j → true ≡ offer os j cs i → Growing cs os i (j + 1)
   grow_other i j g e =
-      let o = offered os cs j i g.our_bound (sym e) in
+      let o = offered os cs j i g.our_bound e in
       let h = get_or os j no_hunk in
       let t = touch_ranges h (get_or cs (i - 1) no_hunk) o.touching in
       let side : h.side ≡ Other = (run_at Other 0 os ro j o.below).0 in
@@ -87,9 +85,9 @@ module _ (cs os : List Hunk) (rc : Run Current 0 cs) (ro : Run Other 0 os) where
         theirs_first = λ p lt. subst (λ (x : ℕ). (get_or os x no_hunk).before.start ≤ (get_or cs i no_hunk).before.start) (sym (add_back j)) (let a = ahead lt in omega arith);
       }
 
-  pub grow_current : (i j : ℕ) → Growing cs os i j → true ≡ offers (slice_get cs i) (last_of (take j os)) → Growing cs os (i + 1) j
+  pub grow_current : (i j : ℕ) → Growing cs os i j → true ≡ offer cs i os j → Growing cs os (i + 1) j
   grow_current i j g e =
-      let o = offered cs os i j g.their_bound (sym e) in
+      let o = offered cs os i j g.their_bound e in
       let h = get_or cs i no_hunk in
       let t = touch_ranges h (get_or os (j - 1) no_hunk) o.touching in
       let side : h.side ≡ Current = (run_at Current 0 cs rc i o.below).0 in
@@ -110,7 +108,7 @@ module _ (cs os : List Hunk) (rc : Run Current 0 cs) (ro : Run Other 0 os) where
       }
 
   -- Neither side offers a hunk: the next one of the walk touches none of the cluster.
-  pub complete : (i j : ℕ) → Growing cs os i j → false ≡ offers (slice_get os j) (last_of (take i cs)) → false ≡ offers (slice_get cs i) (last_of (take j os)) → Taken cs os i j
+  pub complete : (i j : ℕ) → Growing cs os i j → false ≡ offer os j cs i → false ≡ offer cs i os j → Taken cs os i j
   complete i j g po pc =
       record {
         cluster = g.cluster;
@@ -130,7 +128,7 @@ module _ (cs os : List Hunk) (rc : Run Current 0 cs) (ro : Run Other 0 os) where
           ap (λ (y : Hunk). touches_any y (members g.cluster)) e
           ∙ (any_currents x side (members g.cluster)
           ∙ (ap (touches_any x) g.ours
-          ∙ touches_none Current cs rc x i g.our_bound (ap (λ (s : Side). opposite s Current) side) at.2 (λ p. g.ours_first p b) (λ p. sym (offered_is os cs j i b p g.our_bound) ∙ sym po)))
+          ∙ touches_none Current cs rc x i g.our_bound (ap (λ (s : Side). opposite s Current) side) at.2 (λ p. g.ours_first p b) (λ p. sym (offered_is os cs j i b p g.our_bound) ∙ sym (po ∙ offer_is os cs j i))))
 
       current_apart : (h : Hunk) → i < length cs → h ≡ get_or cs i no_hunk → touches_any h (members g.cluster) ≡ false
       current_apart h b e =
@@ -140,7 +138,7 @@ module _ (cs os : List Hunk) (rc : Run Current 0 cs) (ro : Run Other 0 os) where
           ap (λ (y : Hunk). touches_any y (members g.cluster)) e
           ∙ (any_others x side (members g.cluster)
           ∙ (ap (touches_any x) g.theirs
-          ∙ touches_none Other os ro x j g.their_bound (ap (λ (s : Side). opposite s Other) side) at.2 (λ p. g.theirs_first p b) (λ p. sym (offered_is cs os i j b p g.their_bound) ∙ sym pc)))
+          ∙ touches_none Other os ro x j g.their_bound (ap (λ (s : Side). opposite s Other) side) at.2 (λ p. g.theirs_first p b) (λ p. sym (offered_is cs os i j b p g.their_bound) ∙ sym (pc ∙ offer_is cs os i j))))
 
       apart : (h : Hunk) (hs : List Hunk) → walk (drop i cs) (drop j os) ≡ h ∷ hs → touches_any h (members g.cluster) ≡ false
       apart h hs e =

@@ -1,6 +1,5 @@
 -- The first hunk of the walk: whose it is, and what the walk goes on with.
-use Rattle.std.proofs.Common.{◌≡◌, ℕ, zero, suc, ◌<◌, ◌≤◌, leb, ◌⊎◌, List, [], ◌∷◌, length, get_or, drop, Some, None, sym, refl, ap, inl, inr, arith}
-use Rattle.std.specs.List.{slice_get}
+use Rattle.std.proofs.Common.{◌≡◌, ℕ, zero, suc, ◌<◌, ◌≤◌, leb, ◌⊎◌, List, [], ◌∷◌, length, get_or, drop, refl, inl, inr, arith}
 use Rattle.std.proofs.lemmas.Bool.{cond-true, cond-false, cond_both, le-leb, lt-leb}
 use Rattle.rules.specs.declared.hunk.Hunk.{Hunk}
 use Rattle.rules.specs.Walk.{walk}
@@ -33,19 +32,3 @@ head_is (c ∷ cs) (o ∷ os) h hs e =
     (λ _ q. inl (omega arith, cc))
     (λ _ q. inr (omega arith, cc))
     e
-
--- The same of the first hunk by the two sides' first hunks.
-pub first_none : (cs os : List Hunk) → length cs ≡ 0 → length os ≡ 0 → None ≡ slice_get (walk cs os) 0
-first_none [] [] p q = refl
-first_none [] (o ∷ os) p q = absurd (omega arith)
-first_none (c ∷ cs) os p q = absurd (omega arith)
-
-pub first_current : (cs os : List Hunk) → 0 < length cs → (0 < length os → (get_or cs 0 no_hunk).before.start ≤ (get_or os 0 no_hunk).before.start)
-    → Some (get_or cs 0 no_hunk) ≡ slice_get (walk cs os) 0
-first_current [] os p f = absurd (omega arith)
-first_current (c ∷ cs) os p f = ap (λ (l : List Hunk). slice_get l 0) (sym (lead_current c cs os f))
-
-pub first_other : (cs os : List Hunk) → 0 < length os → (0 < length cs → (get_or os 0 no_hunk).before.start < (get_or cs 0 no_hunk).before.start)
-    → Some (get_or os 0 no_hunk) ≡ slice_get (walk cs os) 0
-first_other cs [] p f = absurd (omega arith)
-first_other cs (o ∷ os) p f = ap (λ (l : List Hunk). slice_get l 0) (sym (lead_other o cs os f))

@@ -1,6 +1,7 @@
 -- A hunk that a side offers: it is there, and touches the last one taken of the facing side.
-use Rattle.std.proofs.Common.{◌≡◌, ℕ, ◌-◌, ◌<◌, ◌≤◌, true, false, List, length, get_or, take, Some, None, Option, sym, refl, ap, ◌∙◌, ap₂, ⊎_elim, arith}
+use Rattle.std.proofs.Common.{◌≡◌, ℕ, zero, suc, ◌-◌, ◌<◌, ◌≤◌, Bool, true, false, List, [], ◌∷◌, length, get_or, take, drop, Some, None, Option, sym, refl, ap, ◌∙◌, ap₂, ⊎_elim, arith}
 use Rattle.std.specs.List.{slice_get}
+use Rattle.std.proofs.lemmas.List.{take_all, take_rest}
 use Rattle.std.proofs.lemmas.Option.{slice_get-get_or, slice_get_past}
 use Rattle.std.proofs.lemmas.Bool.{cases_lt, false≢true}
 use Rattle.rules.specs.declared.hunk.Hunk.{Hunk}
@@ -25,13 +26,32 @@ none_next xs ys k m le = ap (λ (o : Option Hunk). offers o (last_of (take m ys)
 pub none_taken : (xs ys : List Hunk) (k m : ℕ) → m ≡ 0 → offers (slice_get xs k) (last_of (take m ys)) ≡ false
 none_taken xs ys k m e = ap (λ (n : ℕ). offers (slice_get xs k) (last_of (take n ys))) e ∙ none_last (slice_get xs k)
 
+-- As the code asks: of the hunks left from place k on, and the first m of the facing side.
+abbrev pub offer : List Hunk → ℕ → List Hunk → ℕ → Bool
+offer xs k ys m = offers (slice_get (take (length xs - k) (drop k xs)) 0) (last_of (take m ys))
+
+next_left : (xs : List Hunk) (k : ℕ) → slice_get (drop k xs) 0 ≡ slice_get xs k
+next_left xs zero = refl
+next_left [] (suc k) = refl
+next_left (x ∷ xs) (suc k) = next_left xs k
+
+pub offer_is : (xs ys : List Hunk) (k m : ℕ) → offer xs k ys m ≡ offers (slice_get xs k) (last_of (take m ys))
+offer_is xs ys k m = ap (λ (o : Option Hunk). offers o (last_of (take m ys))) (ap (λ (l : List Hunk). slice_get l 0) (take_rest xs k) ∙ next_left xs k)
+
+-- What is offered by the first place of one slice and the last place of another.
+pub offered_by : (left taken : List Hunk) → 0 < length left → 0 < length taken
+    → touches (get_or left 0 no_hunk) (get_or taken (length taken - 1) no_hunk) ≡ offers (slice_get left 0) (last_of taken)
+offered_by left taken p q =
+    sym (offered_is left taken 0 (length taken) p q (omega arith)) ∙ ap (λ (l : List Hunk). offers (slice_get left 0) (last_of l)) (take_all (length taken) taken (omega arith))
+
 pub record Offered (xs : List Hunk) (k : ℕ) (ys : List Hunk) (m : ℕ) : Type 0 where
   pub below : k < length xs
   pub some : 0 < m
   pub touching : touches (get_or xs k no_hunk) (get_or ys (m - 1) no_hunk) ≡ true
 
-pub offered : (xs ys : List Hunk) (k m : ℕ) → m ≤ length ys → offers (slice_get xs k) (last_of (take m ys)) ≡ true → Offered xs k ys m
-offered xs ys k m le e =
+pub offered : (xs ys : List Hunk) (k m : ℕ) → m ≤ length ys → true ≡ offer xs k ys m → Offered xs k ys m
+offered xs ys k m le o =
+    let e : offers (slice_get xs k) (last_of (take m ys)) ≡ true = sym (o ∙ offer_is xs ys k m) in
     ⊎_elim
     (λ (b : k < length xs). ⊎_elim
     (λ (p : 0 < m). record { below = b; some = p; touching = sym (offered_is xs ys k m b p le) ∙ e })
@@ -40,5 +60,5 @@ offered xs ys k m le e =
     (λ (b : length xs ≤ k). absurd (false≢true (sym (none_next xs ys k m b) ∙ e)))
     (cases_lt k (length xs))
 
-pub offered_below : (xs ys : List Hunk) (k m : ℕ) → m ≤ length ys → true ≡ offers (slice_get xs k) (last_of (take m ys)) → k < length xs
-offered_below xs ys k m le e = (offered xs ys k m le (sym e)).below
+pub offered_below : (xs ys : List Hunk) (k m : ℕ) → m ≤ length ys → true ≡ offer xs k ys m → k < length xs
+offered_below xs ys k m le e = (offered xs ys k m le e).below

@@ -14,7 +14,7 @@ use Rattle.rules.proofs.Woven.{Run, touches_sym}
 use Rattle.hunks.proofs.Helds.{no_hunk}
 use Rattle.groups.specs.Taking.{offers, one_of, facing_of, Taken}
 use Rattle.groups.proofs.Heads.{lead_current, lead_other}
-use Rattle.groups.proofs.Offered.{none_taken}
+use Rattle.groups.proofs.Offered.{offer_is, none_taken}
 use Rattle.groups.proofs.Growing.{Growing, complete}
 
 -- A hunk of the current side that leads, and one of the other side.
@@ -101,9 +101,9 @@ module _ (cs os : List Hunk) (first : Hunk) (rc : Run Current 0 cs) (ro : Run Ot
       (λ (l : CurrentLeads cs os first).
       let u : touches_any first os ≡ false = subst (λ (s : Side). touches_any first (facing_of s cs os) ≡ false) l.side t in
       let p : offers (slice_get os 0) (last_of (take 1 cs)) ≡ false = ap (λ (x : List Hunk). offers (slice_get os 0) (last_of (take 1 x))) l.is ∙ untouched os u in
-      subst (λ (s : Side). Taken cs os (one_of s).0 (one_of s).1) (sym l.side) (complete cs os rc ro 1 0 (started_current l) (sym p) (sym (none_taken cs os 1 0 refl))))
+      subst (λ (s : Side). Taken cs os (one_of s).0 (one_of s).1) (sym l.side) (complete cs os rc ro 1 0 (started_current l) (sym (offer_is os cs 0 1 ∙ p)) (sym (offer_is cs os 1 0 ∙ none_taken cs os 1 0 refl))))
       (λ (l : OtherLeads cs os first).
       let u : touches_any first cs ≡ false = subst (λ (s : Side). touches_any first (facing_of s cs os) ≡ false) l.side t in
       let p : offers (slice_get cs 0) (last_of (take 1 os)) ≡ false = ap (λ (x : List Hunk). offers (slice_get cs 0) (last_of (take 1 x))) l.is ∙ untouched cs u in
-      subst (λ (s : Side). Taken cs os (one_of s).0 (one_of s).1) (sym l.side) (complete cs os rc ro 0 1 (started_other l) (sym (none_taken os cs 1 0 refl)) (sym p)))
+      subst (λ (s : Side). Taken cs os (one_of s).0 (one_of s).1) (sym l.side) (complete cs os rc ro 0 1 (started_other l) (sym (offer_is os cs 1 0 ∙ none_taken os cs 1 0 refl)) (sym (offer_is cs os 0 1 ∙ p))))
       (leads cs os first rc ro lead)

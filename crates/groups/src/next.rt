@@ -30,16 +30,12 @@ pub struct NextCluster {
 fn first_hunk(current: &[Hunk], other: &[Hunk]) -> Option<Hunk>
     ensures { result ≡ slice_get (walk current.now other.now) 0 }
 {
-    if current.len() == 0 {
-        if other.len() == 0 {
-            return None;
-        }
-        return Some(other[0]);
+    match (current, other) {
+        ([], []) => None,
+        ([ours, ..], [theirs, ..]) if ours.before.start <= theirs.before.start => Some(*ours),
+        (_, [theirs, ..]) => Some(*theirs),
+        ([ours, ..], []) => Some(*ours),
     }
-    if other.len() == 0 || current[0].before.start <= other[0].before.start {
-        return Some(current[0]);
-    }
-    Some(other[0])
 }
 
 // Whether the first hunk of the walk touches a hunk of the opposite side: otherwise it is lone.
@@ -84,8 +80,5 @@ pub fn next_cluster(current: &[Hunk], other: &[Hunk]) -> Option<NextCluster>
     ensures answer { result ≡ first_told (clusters (walk current.now other.now)) }
     ensures rest { Rest current.now other.now result }
 {
-    match first_hunk(current, other) {
-        None => None,
-        Some(first) => Some(cluster_of(first, current, other)),
-    }
+    first_hunk(current, other).map(|first| cluster_of(first, current, other))
 }

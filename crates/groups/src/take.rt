@@ -9,15 +9,14 @@ ghost use Rattle.std.specs.List.{slice_get};
 use crate::touch::touch;
 use rules::hunk::{Hunk, Side};
 
-// Whether hunk k of a side is there, and touches the last of the first m of the facing side.
-fn is_offered(next: &[Hunk], k: usize, facing: &[Hunk], m: usize) -> bool
-    requires { m ≤ length facing.now }
-    ensures { result ≡ offers (slice_get next.now k) (last_of (take m facing.now)) }
+// Whether the first hunk left of a side touches the last one taken of the facing side.
+fn is_offered(left: &[Hunk], taken: &[Hunk]) -> bool
+    ensures { result ≡ offers (slice_get left.now 0) (last_of taken.now) }
 {
-    if k >= next.len() || m == 0 {
-        return false;
+    match (left, taken) {
+        ([next, ..], [.., last]) => touch(*next, *last),
+        _ => false,
     }
-    touch(next[k], facing[m - 1])
 }
 
 /// A single hunk of a side, as numbers of current and other hunks.
@@ -42,15 +41,15 @@ pub fn take_intersecting(current: &[Hunk], other: &[Hunk], first: Hunk) -> (usiz
 {
     let (mut i, mut j) = one_of(first.side);
     'group: loop {
-        while is_offered(other, j, current, i) {
+        while is_offered(&other[j..], &current[..i]) {
             j += 1;
         }
         'more: loop {
-            if !is_offered(current, i, other, j) {
+            if !is_offered(&current[i..], &other[..j]) {
                 break 'group;
             }
             i += 1;
-            if is_offered(other, j, current, i) {
+            if is_offered(&other[j..], &current[..i]) {
                 break 'more;
             }
         }

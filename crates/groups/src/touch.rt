@@ -8,10 +8,10 @@ use rules::hunk::{Hunk, Side};
 fn are_opposite(a: Side, b: Side) -> bool
     ensures { result ≡ opposite a b }
 {
-    match (a, b) {
-        (Side::Current, Side::Other) | (Side::Other, Side::Current) => true,
-        _ => false,
-    }
+    matches!(
+        (a, b),
+        (Side::Current, Side::Other) | (Side::Other, Side::Current)
+    )
 }
 
 /// Whether two hunks of opposite sides touch: neither starts behind the other's end.
@@ -37,9 +37,5 @@ pub(crate) fn touches_any(hunk: Hunk, others: &[Hunk]) -> bool
 pub(crate) fn last_end(hunks: &[Hunk]) -> u32
     ensures { result ≡ last_end hunks.now }
 {
-    let mut end = 0;
-    for hunk in hunks {
-        end = hunk.before.end.max(end);
-    }
-    end
+    hunks.iter().map(|hunk| hunk.before.end).max().unwrap_or(0)
 }

@@ -1,6 +1,7 @@
 -- Numbers of lines.
 use Rattle.std.proofs.Common.{◌≡◌, ℕ, suc, ◌+◌, ◌<◌, ◌≤◌, Bool, true, false, cond, not, ◌&&◌, ◌||◌, eqb, ltb, List, [], ◌∷◌, ◌++◌, length, sym, refl, ap, ◌∙◌, ap₂, ⊎_elim, arith, length-append}
 use Rattle.std.specs.List.{AllByRecursion}
+use Rattle.std.proofs.lemmas.List.Sums.{sum_by-cons}
 use Rattle.std.proofs.lemmas.Bool.{eq-eqb, ne_eqb, cases_eq, and_left, or_left, lt-ltb}
 use Rattle.rules.specs.declared.hunk.Hunk.{Hunk}
 use Rattle.rules.specs.Contraction.{hunk_size}
@@ -16,7 +17,7 @@ use Rattle.reading.proofs.Reading.{whole, few_lines}
 
 pub counted : (s : Sheets) (hs : List Hunk) → AllByRecursion (Readable s) hs → length (side_lines s hs) ≡ line_count hs
 counted s [] r = refl
-counted s (h ∷ hs) r = length-append (hunk_lines s h) (side_lines s hs) ∙ ap₂ ◌+◌ (whole s h r.0) (counted s hs r.1)
+counted s (h ∷ hs) r = length-append (hunk_lines s h) (side_lines s hs) ∙ (ap₂ ◌+◌ (whole s h r.0) (counted s hs r.1) ∙ sym (sum_by-cons hunk_size h hs))
 
 pub few_counted : (s : Sheets) → AllFormed s → (hs : List Hunk) → AllByRecursion (Readable s) hs → length hs ≤ max_filled → line_count hs < 4294967296
 few_counted s f hs r le =

@@ -1,5 +1,5 @@
 pub mod Reading
-pub mod Fronts
 pub mod Backs
 pub mod Counting
 pub mod Detecting
+pub mod Cursors

@@ -1,8 +1,9 @@
--- Lines of a hunk, and of a list of hunks from a cursor on.
-use Rattle.std.proofs.Common.{◌≡◌, ℕ, zero, suc, ◌+◌, ◌-◌, ◌*◌, ◌<◌, ◌≤◌, List, [], ◌∷◌, ◌++◌, length, get_or, drop, Some, None, sym, refl, ap, ◌∙◌, arith, length-append, length-drop}
+-- Lines of a sheet, of a hunk, and of a list of hunks.
+use Rattle.std.proofs.Common.{◌≡◌, ℕ, zero, suc, ◌+◌, ◌-◌, ◌*◌, ◌<◌, ◌≤◌, List, [], ◌∷◌, length, get_or, drop, Some, None, Option, refl, ap, ◌∙◌, arith, length-append, length-drop}
+use Rattle.std.specs.Borrow.{Bor}
 use Rattle.std.specs.List.{AllByRecursion}
-use Rattle.std.proofs.lemmas.List.{at_drop_more, at_drop_all, length-take-le, get_or-take, get_or-drop, drop_all, drop_more}
-use Rattle.std.proofs.ByRecursion.{All-get_or}
+use Rattle.std.specs.Option.{option_map, unwrap_or}
+use Rattle.std.proofs.lemmas.List.{length-take-le, get_or-take, get_or-drop}
 use Rattle.rules.specs.declared.hunk.Side.{Side}
 use Rattle.rules.specs.declared.hunk.Side.TheVariants.{Current, Other, Ancestor}
 use Rattle.rules.specs.declared.hunk.Hunk.{Hunk}
@@ -13,17 +14,14 @@ use Rattle.rules.specs.Lines.{Line, between}
 use Rattle.rules.specs.Texts.{nth_line}
 use Rattle.reading.specs.Three.{AllFormed}
 use Rattle.rules.specs.Contraction.{Readable}
-use Rattle.reading.specs.Reading.{no_hunk}
 
-pub nth_some : (ls : List Line) (n : ℕ) (l : Line) → Some l ≡ nth_line ls n → l ≡ get_or ls n []
-nth_some [] n l e = let z : ◌≡◌ {A = ℕ} 0 1 = cc in absurd (omega arith)
-nth_some (x ∷ ls) zero l e = cc
-nth_some (x ∷ ls) (suc n) l e = nth_some ls n l e
-
-pub nth_none : (ls : List Line) (n : ℕ) → None ≡ nth_line ls n → [] ≡ get_or ls n []
-nth_none [] n e = refl
-nth_none (x ∷ ls) zero e = let z : ◌≡◌ {A = ℕ} 0 1 = cc in absurd (omega arith)
-nth_none (x ∷ ls) (suc n) e = nth_none ls n e
+-- What is shown of line n: its bytes, and none past the last.
+pub shown_or_none : (ls : List Line) (n : ℕ) (r : Option (Bor Line)) (none : Bor Line) → none.now ≡ [] → option_map (λ x. x.now) r ≡ nth_line ls n → (unwrap_or r none).now ≡ get_or ls n []
+shown_or_none [] n None none e p = e
+shown_or_none [] n (Some l) none e p = let z : ◌≡◌ {A = ℕ} 0 1 = cc in absurd (omega arith)
+shown_or_none (x ∷ ls) zero None none e p = let z : ◌≡◌ {A = ℕ} 0 1 = cc in absurd (omega arith)
+shown_or_none (x ∷ ls) zero (Some l) none e p = cc
+shown_or_none (x ∷ ls) (suc n) r none e p = shown_or_none ls n r none e p
 
 pub lines_are : (sd : Side) (s : Sheets) (h : Hunk) → lines_by s sd h ≡ between (sheet_of s sd) (read_range sd h).start (read_range sd h).end
 lines_are Current s h = refl
@@ -43,35 +41,6 @@ line_at s h k lt =
     let a = (read_range h.side h).start in
     let b = (read_range h.side h).end in
     ap (λ (v : List Line). get_or v k []) (lines_are h.side s h) ∙ (get_or-take (b - a) (drop a ls) k [] lt ∙ get_or-drop a ls k [])
-
--- the lines from line k of the first hunk on
-abbrev pub left : Sheets → List Hunk → ℕ → List Line
-left s [] k = []
-left s (h ∷ hs) k = drop k (hunk_lines s h) ++ side_lines s hs
-
-pub left_start : (s : Sheets) (hs : List Hunk) → left s hs 0 ≡ side_lines s hs
-left_start s [] = refl
-left_start s (h ∷ hs) = refl
-
-pub left_skip : (s : Sheets) (hs : List Hunk) (i k : ℕ) → AllByRecursion (Readable s) hs → i < length hs → hunk_size (get_or hs i no_hunk) ≤ k → left s (drop i hs) k ≡ left s (drop (i + 1) hs) 0
-left_skip s hs i k r lt le =
-    let h = get_or hs i no_hunk in
-    let w = whole s h (All-get_or (Readable s) hs i no_hunk lt r) in
-    let e : left s (drop i hs) k ≡ drop k (hunk_lines s h) ++ side_lines s (drop (i + 1) hs) = at_drop_more (λ (v : List Hunk). left s v k) hs i no_hunk lt in
-    let d : drop k (hunk_lines s h) ≡ [] = drop_all k (hunk_lines s h) (omega arith) in
-    e ∙ (ap (λ (v : List Line). v ++ side_lines s (drop (i + 1) hs)) d ∙ sym (left_start s (drop (i + 1) hs)))
-
-pub left_more : (s : Sheets) (hs : List Hunk) (i k : ℕ) → AllByRecursion (Readable s) hs → i < length hs → k < hunk_size (get_or hs i no_hunk) → left s (drop i hs) k ≡ get_or (hunk_lines s (get_or hs i no_hunk)) k [] ∷ left s (drop i hs) (k + 1)
-left_more s hs i k r lt le =
-    let h = get_or hs i no_hunk in
-    let w = whole s h (All-get_or (Readable s) hs i no_hunk lt r) in
-    let e : left s (drop i hs) k ≡ drop k (hunk_lines s h) ++ side_lines s (drop (i + 1) hs) = at_drop_more (λ (v : List Hunk). left s v k) hs i no_hunk lt in
-    let f : left s (drop i hs) (k + 1) ≡ drop (k + 1) (hunk_lines s h) ++ side_lines s (drop (i + 1) hs) = at_drop_more (λ (v : List Hunk). left s v (k + 1)) hs i no_hunk lt in
-    let d : drop k (hunk_lines s h) ≡ get_or (hunk_lines s h) k [] ∷ drop (k + 1) (hunk_lines s h) = drop_more (hunk_lines s h) k [] (omega arith) in
-    e ∙ (ap (λ (v : List Line). v ++ side_lines s (drop (i + 1) hs)) d ∙ ap (λ (v : List Line). get_or (hunk_lines s h) k [] ∷ v) (sym f))
-
-pub left_end : (s : Sheets) (hs : List Hunk) (i k : ℕ) → length hs ≤ i → left s (drop i hs) k ≡ []
-left_end s hs i k le = at_drop_all (λ (v : List Hunk). left s v k) hs i le
 
 pub few_of : (s : Sheets) → AllFormed s → (sd : Side) → length (sheet_of s sd) ≤ max_lines
 few_of s f Current = f.current.1

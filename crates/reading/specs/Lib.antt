@@ -1,3 +1,4 @@
 pub mod Three
 pub mod Reading
 pub mod Counts
+pub mod Cursors

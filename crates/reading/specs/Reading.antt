@@ -1,13 +1,12 @@
 -- What is read of a list of hunks.
-use Rattle.std.specs.Prelude.{ℕ, ◌+◌, Bool, false, ◌||◌, List, [], ◌∷◌, nat_lt}
+use Rattle.std.specs.Prelude.{ℕ, Bool, false, ◌||◌, List, [], ◌∷◌, nat_lt, sum_by}
 use Rattle.rules.specs.declared.hunk.Hunk.{Hunk}
 use Rattle.rules.specs.declared.hunk.Side.TheVariants.{Current}
 use Rattle.rules.specs.Contraction.{hunk_size}
 
 -- How many lines are read of a list's hunks.
 abbrev pub line_count : List Hunk → ℕ
-line_count [] = 0
-line_count (h ∷ hs) = hunk_size h + line_count hs
+line_count = sum_by hunk_size
 
 -- Whether a hunk of the list has lines.
 abbrev pub any_lines : List Hunk → Bool

@@ -29,10 +29,7 @@ pub fn lines_of(hunk: Hunk) -> u32
 pub fn line_at<T: ThreeSheets>(three: &T, side: Side, n: u32) -> &[u8]
     ensures { result.now ≡ slice_index_or (sheet_of (T.ThreeSheets.sheets three.now) side) n [] }
 {
-    match three.line_of(side, n) {
-        Some(line) => line,
-        None => &[],
-    }
+    three.line_of(side, n).unwrap_or(&[])
 }
 
 /// Line `k` of a hunk.
@@ -48,11 +45,7 @@ pub fn count_lines(hunks: &[Hunk]) -> u32
     requires { line_count hunks.now < 4294967296 }
     ensures { result ≡ line_count hunks.now }
 {
-    let mut sum = 0;
-    for hunk in hunks {
-        sum += lines_of(*hunk);
-    }
-    sum
+    hunks.iter().map(|hunk| lines_of(*hunk)).sum()
 }
 
 /// Whether a hunk of the list has lines.
@@ -68,8 +61,6 @@ pub fn contains_lines(hunks: &[Hunk]) -> bool
 }
 
 /// What `count_lines` and `contains_lines` tell of hunks is true of the lines that these stand for.
-pub fn counts_stand() -> u8
+pub fn counts_stand()
     ensures { CountsStand }
-{
-    0
-}
+{}

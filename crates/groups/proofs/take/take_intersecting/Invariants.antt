@@ -1,8 +1,6 @@
-use Rattle.std.proofs.Common.{◌≡◌, ◌+◌, ◌-◌, ◌≤◌, false, length, take}
-use Rattle.std.specs.List.{slice_get}
-use Rattle.rules.specs.Tables.{last_of}
-use Rattle.groups.specs.Taking.{offers}
+use Rattle.std.proofs.Common.{◌≡◌, ◌+◌, ◌-◌, ◌≤◌, false, length}
 use Rattle.groups.proofs.Growing.{Growing}
+use Rattle.groups.proofs.Offered.{offer}
 use Rattle.groups.proofs.take.take_intersecting.Given as goal
 
 abbrev pub invariant-group : goal.invariant-group
@@ -18,7 +16,7 @@ abbrev pub decreases-loop-j : goal.decreases-loop-j
 decreases-loop-j l = length l.other - l.j
 
 abbrev pub invariant-more : goal.invariant-more
-invariant-more l = Growing l.current l.other l.i l.j × (l.initial.i ≤ l.i) × (false ≡ offers (slice_get l.other l.j) (last_of (take l.i l.current)))
+invariant-more l = Growing l.current l.other l.i l.j × (l.initial.i ≤ l.i) × (false ≡ offer l.other l.j l.current l.i)
 
 abbrev pub decreases-more : goal.decreases-more
 decreases-more l = length l.current - l.i

@@ -1,20 +1,20 @@
-use Rattle.std.proofs.Common.{◌≡◌, ℕ, ◌+◌, max, get_or, drop, arith}
-use Rattle.std.proofs.lemmas.List.{at_drop_more, at_drop_all}
+use Rattle.std.proofs.Common.{◌≡◌, ℕ, max, List, [], ◌∷◌, fold, unwrap_or, ap, ◌∙◌, arith, rules, tests}
+use Rattle.std.proofs.lemmas.Iterator.{YieldsList-from_slice, YieldsList-from_map}
+use Rattle.std.proofs.lemmas.Iterator.Consumers.{reduce_from_yields_List}
+use Rattle.std.proofs.lemmas.List.Folds.{max_of_map}
+use Rattle.rules.specs.declared.hunk.Hunk.{Hunk}
 use Rattle.rules.specs.Groups.{last_end}
-use Rattle.hunks.proofs.Helds.{no_hunk}
 use Rattle.groups.proofs.touch.last_end.Goals as goal
 
-more : (h end r rest left all : ℕ) → r ≡ max h end → left ≡ max h rest → max end left ≡ all → max r rest ≡ all
-more h end r rest left all p q e = omega arith
-
-pub loop-hunk-preserved : goal.loop-hunk-preserved
-loop-hunk-preserved c =
-    let hs = c.args.hunks.now in
-    let i = c.loop-hunk.hunk-index in
-    let e : last_end (drop i hs) ≡ max (get_or hs i no_hunk).before.end (last_end (drop (i + 1) hs)) = at_drop_more last_end hs i no_hunk c.loop-hunk-test.true in
-    more (get_or hs i no_hunk).before.end c.loop-hunk.end c.max-end.result (last_end (drop (i + 1) hs)) _ _ c.max-end.ensures e c.loop-hunk.invariant
+ends : (end : ℕ) (hs : List Hunk) → fold (λ a h. max a h.before.end) end hs ≡ max end (last_end hs)
+ends end [] = omega arith
+ends end (h ∷ hs) = let e = ends (max end h.before.end) hs in omega arith
 
 pub returns : goal.returns
 returns c =
-    let e : last_end (drop c.loop-hunk.hunk-index c.args.hunks.now) ≡ 0 = at_drop_all last_end c.args.hunks.now c.loop-hunk.hunk-index c.loop-hunk-test.false in
-    omega (arith, c.loop-hunk.invariant)
+    let hs = c.args.hunks.now in
+    let end = λ (h : Hunk). h.before.end in
+    let greatest = reduce_from_yields_List _ c.map.result _ c.max.ensures.ran (YieldsList-from_map _ end (YieldsList-from_slice hs cc) c.map.ensures.closure (λ x b q k. search (rules, tests))) in
+    let folded = c.unwrap_or.ensures ∙ (ap (λ o. unwrap_or o 0) greatest ∙ max_of_map end hs) in
+    let e = ends 0 hs in
+    omega (arith, folded)

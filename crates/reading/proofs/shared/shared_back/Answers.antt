@@ -1,118 +1,21 @@
-use Rattle.std.proofs.Common.{◌-◌, ◌<◌, sym, ◌∙◌, subst, ap₂, arith}
-use Rattle.rules.specs.Lines.{same_line}
-use Rattle.reading.proofs.Backs.{Back, behind_of, back_start, back_skip_left, back_skip_right, back_inside, back_more, back_stop, back_end_left, back_end_right, back_small}
+use Rattle.std.proofs.Common.{rules, ◌≤◌, reverse, length, ap, arith}
+use Rattle.std.proofs.lemmas.Iterator.Consumers.{YieldsList-from_first}
+use Rattle.std.proofs.lemmas.List.{length-reverse}
+use Rattle.rules.specs.Hunks.{side_lines}
+use Rattle.reading.specs.Cursors.{lines_behind}
+use Rattle.reading.proofs.Reading.{few_lines}
 use Rattle.reading.proofs.shared.shared_back.Goals as goal
 
-pub run-init : goal.run-init
-run-init g c =
+pub count_alike-requires : goal.count_alike-requires
+count_alike-requires g c κs =
     let s = g.T.ThreeSheets.sheets c.args.three.now in
-    let a = c.args.a.now in
-    let b = c.args.b.now in
-    back_start s a b
+    let n = few_lines s (g.T.ThreeSheets.formed c.args.three.now) c.args.a.now c.requires.ours in
+    let e = ap length c.of.ensures.behind in
+    let r = length-reverse (side_lines s c.args.a.now) in
+    let few : length (lines_behind (g.T.ThreeSheets.sheets c.of.result.three.now) c.of.result) ≤ 4294967295 = omega (arith, c.requires.few) in
+    search rules
 
-pub run-preserved-then-k-eq0 : goal.run-preserved-then-k-eq0
-run-preserved-then-k-eq0 g c =
+pub returns : goal.returns
+returns g c =
     let s = g.T.ThreeSheets.sheets c.args.three.now in
-    let a = c.args.a.now in
-    let b = c.args.b.now in
-    let v = c.run in
-    subst (λ z. Back s a b (v.i - 1) z v.j v.m v.n) (sym c.lines_of-k.ensures) (back_skip_left s a b v.i v.k v.j v.m v.n c.requires.ours c.requires.theirs v.invariant (omega arith) c.if-k-eq0.true).0
-
-pub run-smaller-then-k-eq0 : goal.run-smaller-then-k-eq0
-run-smaller-then-k-eq0 g c =
-    let s = g.T.ThreeSheets.sheets c.args.three.now in
-    let a = c.args.a.now in
-    let b = c.args.b.now in
-    let v = c.run in
-    subst (λ z. behind_of s a b (v.i - 1) z v.j v.m < behind_of s a b v.i v.k v.j v.m) (sym c.lines_of-k.ensures) (back_skip_left s a b v.i v.k v.j v.m v.n c.requires.ours c.requires.theirs v.invariant (omega arith) c.if-k-eq0.true).1
-
-pub run-preserved-then-m-eq0 : goal.run-preserved-then-m-eq0
-run-preserved-then-m-eq0 g c =
-    let s = g.T.ThreeSheets.sheets c.args.three.now in
-    let a = c.args.a.now in
-    let b = c.args.b.now in
-    let v = c.run in
-    subst (λ z. Back s a b v.i v.k (v.j - 1) z v.n) (sym c.lines_of-m.ensures) (back_skip_right s a b v.i v.k v.j v.m v.n c.requires.ours c.requires.theirs v.invariant (omega arith) c.if-m-eq0.true).0
-
-pub run-smaller-then-m-eq0 : goal.run-smaller-then-m-eq0
-run-smaller-then-m-eq0 g c =
-    let s = g.T.ThreeSheets.sheets c.args.three.now in
-    let a = c.args.a.now in
-    let b = c.args.b.now in
-    let v = c.run in
-    subst (λ z. behind_of s a b v.i v.k (v.j - 1) z < behind_of s a b v.i v.k v.j v.m) (sym c.lines_of-m.ensures) (back_skip_right s a b v.i v.k v.j v.m v.n c.requires.ours c.requires.theirs v.invariant (omega arith) c.if-m-eq0.true).1
-
-pub bounds-a-i-else-m-eq0 : goal.bounds-a-i-else-m-eq0
-bounds-a-i-else-m-eq0 g c =
-    let s = g.T.ThreeSheets.sheets c.args.three.now in
-    let a = c.args.a.now in
-    let b = c.args.b.now in
-    let v = c.run in
-    (back_inside s a b v.i v.k v.j v.m v.n c.requires.ours c.requires.theirs v.invariant (omega arith) (omega arith)).0
-
-pub bounds-b-j-else-m-eq0 : goal.bounds-b-j-else-m-eq0
-bounds-b-j-else-m-eq0 g c =
-    let s = g.T.ThreeSheets.sheets c.args.three.now in
-    let a = c.args.a.now in
-    let b = c.args.b.now in
-    let v = c.run in
-    (back_inside s a b v.i v.k v.j v.m v.n c.requires.ours c.requires.theirs v.invariant (omega arith) (omega arith)).1
-
-pub run-preserved : goal.run-preserved
-run-preserved g c =
-    let s = g.T.ThreeSheets.sheets c.args.three.now in
-    let a = c.args.a.now in
-    let b = c.args.b.now in
-    let v = c.run in
-    let pk : 0 < v.k = omega arith in
-    let pm : 0 < v.m = omega arith in
-    let e = c.if-not-same_line.ensures ∙ ap₂ same_line c.line_in.ensures c.line_in-else-m-eq0.ensures in
-    (back_more s a b v.i v.k v.j v.m v.n c.requires.ours c.requires.theirs v.invariant pk pm (sym e)).0
-
-pub run-smaller : goal.run-smaller
-run-smaller g c =
-    let s = g.T.ThreeSheets.sheets c.args.three.now in
-    let a = c.args.a.now in
-    let b = c.args.b.now in
-    let v = c.run in
-    let pk : 0 < v.k = omega arith in
-    let pm : 0 < v.m = omega arith in
-    let e = c.if-not-same_line.ensures ∙ ap₂ same_line c.line_in.ensures c.line_in-else-m-eq0.ensures in
-    (back_more s a b v.i v.k v.j v.m v.n c.requires.ours c.requires.theirs v.invariant pk pm (sym e)).1
-
-pub overflow_add-n : goal.overflow_add-n
-overflow_add-n g c =
-    let s = g.T.ThreeSheets.sheets c.args.three.now in
-    let a = c.args.a.now in
-    let b = c.args.b.now in
-    let v = c.run in
-    let few = g.T.ThreeSheets.formed c.args.three.now in
-    let x = back_small s a b v.i v.k v.j v.m v.n c.requires.ours c.requires.theirs v.invariant few c.requires.few in
-    omega arith
-
-pub returns-then-j-eq0 : goal.returns-then-j-eq0
-returns-then-j-eq0 g c =
-    let s = g.T.ThreeSheets.sheets c.args.three.now in
-    let a = c.args.a.now in
-    let b = c.args.b.now in
-    let v = c.run in
-    back_end_right s a b v.i v.k v.j v.m v.n c.requires.ours c.requires.theirs v.invariant c.if-j-eq0.true c.if-m-eq0.true
-
-pub returns-then-i-eq0 : goal.returns-then-i-eq0
-returns-then-i-eq0 g c =
-    let s = g.T.ThreeSheets.sheets c.args.three.now in
-    let a = c.args.a.now in
-    let b = c.args.b.now in
-    let v = c.run in
-    back_end_left s a b v.i v.k v.j v.m v.n c.requires.ours c.requires.theirs v.invariant c.if-i-eq0.true c.if-k-eq0.true
-
-pub returns-then-not-same_line : goal.returns-then-not-same_line
-returns-then-not-same_line g c =
-    let s = g.T.ThreeSheets.sheets c.args.three.now in
-    let a = c.args.a.now in
-    let b = c.args.b.now in
-    let v = c.run in
-    let pk : 0 < v.k = omega arith in
-    let pm : 0 < v.m = omega arith in
-    let e = c.if-not-same_line.ensures ∙ ap₂ same_line c.line_in.ensures c.line_in-else-m-eq0.ensures in
-    back_stop s a b v.i v.k v.j v.m v.n c.requires.ours c.requires.theirs v.invariant pk pm (sym e)
+    c.count_alike.ensures (reverse (side_lines s c.args.a.now)) (reverse (side_lines s c.args.b.now)) (YieldsList-from_first _ _ _ c.of.ensures.behind).runs (YieldsList-from_first _ _ _ c.of-2.ensures.behind).runs
