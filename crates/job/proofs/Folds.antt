@@ -1,21 +1,24 @@
 -- Steps of the loops: what is left gives the answer.
-use Rattle.std.proofs.Common.{◌≡◌, ℕ, suc, ◌+◌, ◌-◌, ◌*◌, ◌^◌, ◌<◌, ◌≤◌, Bool, true, false, cond, eqb, List, [], ◌∷◌, length, get_or, take, drop, Some, None, sym, refl, ap, ◌∙◌, arith, length-drop, le-ltb, lt-ltb, eq-eqb, ne_eqb, eqb-true}
-use Rattle.std.proofs.lemmas.List.{at_drop_more, at_drop_all}
-use Rattle.job.specs.Ends.{line_length}
-use Rattle.job.specs.Numbers.{digit_count, fitting, is_digit, number_of, value_on}
+use Rattle.std.proofs.Common.{max, ◌≡◌, ℕ, suc, ◌+◌, ◌<◌, ◌≤◌, Bool, true, false, cond, eqb, List, [], ◌∷◌, length, take, drop, Some, None, sym, refl, ap, ◌∙◌, arith, length-drop, eq-eqb, eqb-true}
+use Rattle.std.proofs.lemmas.Bool.Decides.{nat_tests}
+use Rattle.std.specs.Prelude.{◌==◌, nat_lt, not, position}
+use Rattle.std.specs.List.{position_or_len}
+use Rattle.job.specs.Ends.{line_end, line_length}
 use Rattle.job.specs.Words.{after}
 
--- a newline ends the line; any other byte is one more of it
-pub newline_ends : (t : List ℕ) (i : ℕ) → i < length t → get_or t i 0 ≡ 10 → line_length (drop i t) ≡ 1
-newline_ends t i h e =
-    at_drop_more line_length t i 0 h ∙ ap (λ v. cond v 1 (suc (line_length (drop (i + 1) t)))) (eq-eqb (get_or t i 0) 10 e)
+-- the first newline ends the line, and where there is none the line goes on to the end
+line_by_newline : (t : List ℕ) → line_length t ≡ cond (nat_lt (position_or_len (λ b. b == 10) t) (length t)) (position_or_len (λ b. b == 10) t + 1) (length t)
+line_by_newline [] = refl
+line_by_newline (b ∷ bs) = elim (b == 10) as (λ v. cond v 1 (suc (line_length bs)) ≡ cond (nat_lt (cond (not v) (1 + position_or_len (λ b. b == 10) bs) 0) (suc (length bs))) (cond (not v) (1 + position_or_len (λ b. b == 10) bs) 0 + 1) (suc (length bs))) [
+  | true ↦ grind (arith, nat_tests)
+  | false ↦ let h = line_by_newline bs in grind (arith, nat_tests)
+]
 
-pub line_goes_on : (t : List ℕ) (i : ℕ) → i < length t → (get_or t i 0 ≡ 10 → ⊥) → line_length (drop i t) ≡ suc (line_length (drop (i + 1) t))
-line_goes_on t i h e =
-    at_drop_more line_length t i 0 h ∙ ap (λ v. cond v 1 (suc (line_length (drop (i + 1) t)))) (ne_eqb (get_or t i 0) 10 e)
+pub ends_at_newline : (t : List ℕ) (from n : ℕ) → position (λ b. b == 10) (drop from t) ≡ Some n → from + n + 1 ≡ line_end t from
+ends_at_newline t from n e = let h = line_by_newline (drop from t) in grind (arith, nat_tests)
 
-pub no_line_left : (t : List ℕ) (i : ℕ) → length t ≤ i → line_length (drop i t) ≡ 0
-no_line_left t i h = at_drop_all line_length t i h
+pub ends_with_job : (t : List ℕ) (from : ℕ) → position (λ b. b == 10) (drop from t) ≡ None → max (length t) from ≡ line_end t from
+ends_with_job t from e = let h = line_by_newline (drop from t) in let l = length-drop from t in grind (arith, nat_tests)
 
 -- a line has a byte at least, and no more than are there
 length_within : (t : List ℕ) → line_length t ≤ length t
@@ -50,28 +53,3 @@ word_absent (w ∷ ws) (b ∷ bs) e = by (eqb w b) refl (word_absent ws bs)
     by : (v : Bool) → eqb w b ≡ v → ((take (length ws) bs ≡ ws → ⊥) → after ws bs ≡ None) → cond v (after ws bs) None ≡ None
     by true g ih = let p = eqb-true w b g in ih (λ q. e (ap (λ c. c ∷ take (length ws) bs) (sym p) ∙ ap (λ cs. w ∷ cs) q))
     by false g ih = refl
-
--- a digit is one more; any other byte ends the number
-pub digit_more : (t : List ℕ) (i : ℕ) → i < length t → is_digit (get_or t i 0) ≡ true → digit_count (drop i t) ≡ suc (digit_count (drop (i + 1) t))
-digit_more t i h e =
-    at_drop_more digit_count t i 0 h ∙ ap (λ v. cond v (suc (digit_count (drop (i + 1) t))) 0) e
-
-pub digits_end : (t : List ℕ) (i : ℕ) → i < length t → is_digit (get_or t i 0) ≡ false → digit_count (drop i t) ≡ 0
-digits_end t i h e =
-    at_drop_more digit_count t i 0 h ∙ ap (λ v. cond v (suc (digit_count (drop (i + 1) t))) 0) e
-
--- a number only grows by digits behind it, so one that does not fit stays so
-value_grows : (n : ℕ) (ds : List ℕ) → n ≤ value_on n ds
-value_grows n [] = omega arith
-value_grows n (d ∷ ds) = let h = value_grows (n * 10 + (d - 48)) ds in omega arith
-
-pub too_large : (n : ℕ) (ds all : List ℕ) → 2 ^ 32 ≤ n → value_on n ds ≡ value_on 0 all → number_of all ≡ None
-too_large n ds [] h e = refl
-too_large n ds (a ∷ bs) h e =
-    let g = value_grows n ds in
-    ap (λ v. cond v (Some (value_on 0 (a ∷ bs))) None) (le-ltb (value_on 0 (a ∷ bs)) (2 ^ 32) (omega arith))
-
-pub number_whole : (n : ℕ) (all : List ℕ) → 0 < length all → n < 2 ^ 32 → n ≡ value_on 0 all → number_of all ≡ Some n
-number_whole n [] some h e = absurd (omega arith)
-number_whole n (a ∷ bs) some h e =
-    ap fitting (sym e) ∙ ap (λ v. cond v (Some n) None) (lt-ltb n (2 ^ 32) h)

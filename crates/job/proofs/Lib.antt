@@ -1,3 +1,4 @@
 pub mod Folds
 pub mod NumbersBack
+pub mod Numerals
 pub mod ReadsBack

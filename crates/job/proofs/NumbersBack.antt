@@ -1,23 +1,19 @@
 -- A number, spelled, reads back as itself.
-use Rattle.std.proofs.Common.{◌≡◌, ℕ, suc, ◌^◌, ◌<◌, Bool, true, false, cond, ◌&&◌, List, [], ◌∷◌, ◌++◌, length, take, drop, Some, None, decimal, sym, refl, ap, ◌∙◌, true≢false, arith, rules}
+use Rattle.std.proofs.Common.{◌≡◌, ℕ, suc, ◌+◌, ◌^◌, ◌<◌, Bool, true, false, cond, ◌&&◌, List, [], ◌∷◌, ◌++◌, length, take, drop, Some, None, decimal, sym, refl, ap, ◌∙◌, true≢false, arith}
 use Rattle.std.proofs.lemmas.Fmt.{decimal_nonempty, digits_decimal, digits_value-decimal}
 use Rattle.std.proofs.lemmas.List.{append-nil}
-use Rattle.std.proofs.lemmas.Str.Parse.{IsNumeralModel, numerals_by_fold, tells_all_ascii_digits}
 use Rattle.std.specs.Str.{all_ascii_digits}
-use Rattle.job.specs.Numbers.{Fits32, at_end, digit_count, front_number, is_digit, last_number, number_of, number_then, value_on, with_mark}
+use Rattle.job.specs.Numbers.{Fits32, at_end, digit_count, front_number, is_digit, last_number, number_of, number_then, with_mark}
 use Rattle.job.specs.Words.{after, and_then, or_else, with_rest}
-use Rattle.job.proofs.Folds.{number_whole}
-
-own : IsNumeralModel (λ ds. all_ascii_digits ds ≡ true) (value_on 0)
-own = numerals_by_fold (λ ds. all_ascii_digits ds ≡ true) tells_all_ascii_digits value_on (search rules)
+use Rattle.job.proofs.Numerals.{own, whole}
 
 -- digits are counted as far as they go
 count_ahead : (ds rest : List ℕ) → all_ascii_digits ds ≡ true → digit_count rest ≡ 0 → digit_count (ds ++ rest) ≡ length ds
 count_ahead [] rest h z = z
 count_ahead (d ∷ ds) rest h z = by (is_digit d) h (λ g. count_ahead ds rest g z)
   where
-    by : (v : Bool) → v && all_ascii_digits ds ≡ true → (all_ascii_digits ds ≡ true → digit_count (ds ++ rest) ≡ length ds) → cond v (suc (digit_count (ds ++ rest))) 0 ≡ suc (length ds)
-    by true g ih = ap suc (ih g)
+    by : (v : Bool) → v && all_ascii_digits ds ≡ true → (all_ascii_digits ds ≡ true → digit_count (ds ++ rest) ≡ length ds) → cond v (1 + digit_count (ds ++ rest)) 0 ≡ suc (length ds)
+    by true g ih = let e = ih g in omega arith
     by false g ih = absurd (true≢false (sym g))
 
 take_front : (ds rest : List ℕ) → take (length ds) (ds ++ rest) ≡ ds
@@ -38,7 +34,7 @@ front_at ds rest n a z v =
 front_back : (n : ℕ) (rest : List ℕ) → Fits32 n → digit_count rest ≡ 0 → front_number (decimal n ++ rest) ≡ Some (n, rest)
 front_back n rest h z =
     let big : n < 2 ^ 64 = omega arith in
-    front_at (decimal n) rest n (digits_decimal own n big) z (number_whole n (decimal n) (decimal_nonempty n big) h (sym (digits_value-decimal own n big)))
+    front_at (decimal n) rest n (digits_decimal own n big) z (whole n (decimal n) (decimal_nonempty n big) h (sym (digits_value-decimal own n big)))
 
 -- with a mark behind it that begins with no digit, and at a line's end
 pub marked_back : (mark rest : List ℕ) (n : ℕ) → Fits32 n → digit_count (mark ++ rest) ≡ 0 → after mark (mark ++ rest) ≡ Some rest → number_then mark (decimal n ++ (mark ++ rest)) ≡ Some (n, rest)

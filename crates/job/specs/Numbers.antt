@@ -1,5 +1,6 @@
 -- Decimal numbers in a line.
-use Rattle.std.specs.Prelude.{ℕ, suc, ◌+◌, ◌-◌, ◌*◌, ◌^◌, ◌<◌, Bool, cond, ◌&&◌, List, [], ◌∷◌, take, drop, Some, None, Option, nat_le, nat_lt}
+use Rattle.std.specs.Prelude.{ℕ, ◌+◌, ◌-◌, ◌*◌, ◌^◌, ◌<◌, Bool, cond, ◌&&◌, List, [], ◌∷◌, take, drop, Some, None, Option, nat_le, nat_lt}
+use Rattle.std.specs.List.{prefix_len}
 use Rattle.job.specs.Words.{after, and_then, or_else, with_rest}
 
 abbrev pub is_digit : ℕ → Bool
@@ -7,8 +8,7 @@ is_digit b = nat_le 48 b && nat_le b 57
 
 -- How many digits stand at the front of a line.
 abbrev pub digit_count : List ℕ → ℕ
-digit_count [] = 0
-digit_count (b ∷ bs) = cond (is_digit b) (suc (digit_count bs)) 0
+digit_count line = prefix_len is_digit line
 
 -- The number that digits write behind those that are read already.
 abbrev pub value_on : ℕ → List ℕ → ℕ

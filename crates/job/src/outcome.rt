@@ -40,11 +40,5 @@ pub fn sum_up(outcomes: &[Outcome]) -> Summary
 fn count_of(outcomes: &[Outcome], which: Outcome) -> usize
     ensures { result ≡ count_of which outcomes.now }
 {
-    let mut n = 0;
-    for outcome in outcomes {
-        if *outcome as u8 == which as u8 {
-            n += 1;
-        }
-    }
-    n
+    outcomes.iter().filter(|outcome| **outcome == which).count()
 }

@@ -1,7 +1,8 @@
 //! Decimal numbers in a line.
-ghost use Rattle.std.specs.Prelude.{◌≡◌, ℕ, ◌≤◌, length};
+ghost use Rattle.std.specs.Prelude.{◌≡◌, ℕ, ◌≤◌, true, length};
 ghost use Rattle.std.specs.Option.{option_map};
-ghost use Rattle.job.specs.Numbers.{digit_count, front_number, is_digit, last_number, number_of, number_then};
+ghost use Rattle.std.specs.Str.{all_ascii_digits};
+ghost use Rattle.job.specs.Numbers.{digit_count, front_number, last_number, number_of, number_then};
 ghost use Rattle.job.specs.Words.{told};
 
 use crate::read::words::what_follows;
@@ -24,6 +25,7 @@ pub(super) fn last_number(line: &[u8]) -> Option<u32>
 }
 
 /// The number at the front of a line, and what follows it.
+#[tactic(auto, using(crate::proofs::Numerals::front_digits))]
 fn front_number(line: &[u8]) -> Option<(u32, &[u8])>
     ensures { option_map told result ≡ front_number line.now }
 {
@@ -37,35 +39,13 @@ fn digit_count(line: &[u8]) -> usize
     ensures answer { result ≡ digit_count line.now }
     ensures within { result ≤ length line.now }
 {
-    let mut n = 0;
-    while n < line.len() {
-        if !is_digit(line[n]) {
-            break;
-        }
-        n += 1;
-    }
-    n
-}
-
-fn is_digit(b: u8) -> bool
-    ensures { result ≡ is_digit b }
-{
-    b'0' <= b && b <= b'9'
+    line.iter().take_while(|b| b.is_ascii_digit()).count()
 }
 
 /// The number that digits write, if there is one and it fits.
 fn number_of(digits: &[u8]) -> Option<u32>
+    requires { all_ascii_digits digits.now ≡ true }
     ensures { result ≡ number_of digits.now }
 {
-    if digits.is_empty() {
-        return None;
-    }
-    let mut n: u64 = 0;
-    for d in digits {
-        n = n * 10 + d.saturating_sub(b'0') as u64;
-        if n > 4_294_967_295 {
-            return None;
-        }
-    }
-    Some(n as u32)
+    str::from_utf8(digits).ok()?.parse().ok()
 }
