@@ -2,7 +2,7 @@
 use crate::make::hunk;
 use hunks::table::HunkTable;
 use rules::hunk::{Hunk, Side};
-use rules::refusal::{Layer, TableRefusal};
+use rules::refusal::{Layer, Refusal, TableRefusal};
 use std::process::Abort;
 use std::test::Fail;
 

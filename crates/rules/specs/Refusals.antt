@@ -1,11 +1,11 @@
--- Refusals: the layer, the number and the place of each case.
-use Rattle.std.specs.Prelude.{◌≡◌, ℕ, Err, Result}
+-- Refusals: the layer, the number and the place of each case, and the words that it is printed in.
+use Rattle.std.specs.Prelude.{◌≡◌, ℕ, List, Err, Result, codes}
 use Rattle.rules.specs.declared.hunk.Side.{Side}
 use Rattle.rules.specs.declared.hunk.Side.TheVariants.{Current, Other, Ancestor}
 use Rattle.rules.specs.declared.refusal.HunkRange.{HunkRange}
 use Rattle.rules.specs.declared.refusal.HunkRange.TheVariants.{Before, After}
 use Rattle.rules.specs.declared.refusal.Layer.{Layer}
-use Rattle.rules.specs.declared.refusal.Layer.TheVariants.{Table, Render}
+use Rattle.rules.specs.declared.refusal.Layer.TheVariants.{Sheet, Table, Render}
 use Rattle.rules.specs.declared.refusal.RenderRefusal.{RenderRefusal}
 use Rattle.rules.specs.declared.refusal.RenderRefusal.TheVariants.{CountsDiffer, MarkerSize, LabelTooLong, SinkTooSmall}
 use Rattle.rules.specs.declared.refusal.TableRefusal.{TableRefusal}
@@ -20,6 +20,12 @@ side_place Other = 2
 abbrev pub range_place : HunkRange → ℕ
 range_place Before = 0
 range_place After = 1
+
+-- What is printed of a layer.
+abbrev pub layer_word : Layer → List ℕ
+layer_word Sheet = codes "sheet"
+layer_word Table = codes "table"
+layer_word Render = codes "render"
 
 -- The table's refusals.
 abbrev pub table_number : TableRefusal → ℕ
@@ -49,6 +55,20 @@ table_place (RangeOutside range) = range_place range
 table_place HunkEmpty = 0
 table_place NotBehindLast = 0
 table_place NothingHeld = 0
+
+-- What is printed of a table's refusal.
+abbrev pub range_words : HunkRange → List ℕ
+range_words Before = codes "the before range runs backward or past the ancestor's end"
+range_words After = codes "the after range runs backward or past the sheet's end"
+
+abbrev pub table_words : TableRefusal → List ℕ
+table_words (CountTooLarge side) = codes "this sheet has more than 4096 lines"
+table_words NoHunksOfSide = codes "no hunks are held of the ancestor"
+table_words SideFull = codes "the side holds 256 hunks"
+table_words (RangeOutside range) = range_words range
+table_words HunkEmpty = codes "both ranges are empty"
+table_words NotBehindLast = codes "the hunk does not lie behind the side's last one, with an ancestor line between"
+table_words NothingHeld = codes "no hunk is held of the side"
 
 -- The render's refusals.
 abbrev pub render_number : RenderRefusal → ℕ

@@ -27,168 +27,122 @@ pub fn limits_stand() -> (u32, usize, usize, usize, u32)
 }
 
 /// The worked cases come out as stated, in all six modes.
-pub fn cases_stand() -> u8
+pub fn cases_stand()
     ensures { Cases }
-{
-    0
-}
+{}
 
 /// Which lines hunks stand for, and what fills the sides of a group.
-pub fn hunks_stand() -> u8
+pub fn hunks_stand()
     ensures { HunksStand }
-{
-    0
-}
+{}
 
 /// When two hunks touch.
-pub fn touching_stands() -> u8
+pub fn touching_stands()
     ensures { TouchLaw }
-{
-    0
-}
+{}
 
 /// The walk holds every hunk of both sides, in order.
-pub fn walks_stand() -> u8
+pub fn walks_stand()
     ensures { WalksStand }
-{
-    0
-}
+{}
 
 /// Groups are the chains of touching hunks.
-pub fn groups_stand() -> u8
+pub fn groups_stand()
     ensures { GroupsStand }
-{
-    0
-}
+{}
 
 /// The ranges of groups and lone hunks, which lie apart.
-pub fn ranges_stand() -> u8
+pub fn ranges_stand()
     ensures { RangesStand }
-{
-    0
-}
+{}
 
 /// An exchange of sides keeps the groups.
-pub fn exchange_keeps_groups() -> u8
+pub fn exchange_keeps_groups()
     ensures { ExchangeKeepsGroups }
-{
-    0
-}
+{}
 
 /// What ours, theirs and Union write of each group, and what contraction leaves.
-pub fn sides_stand() -> u8
+pub fn sides_stand()
     ensures { SidesStand }
-{
-    0
-}
+{}
 
 /// The line ending that a list of hunks shows.
-pub fn endings_stand() -> u8
+pub fn endings_stand()
     ensures { EndingsStand }
-{
-    0
-}
+{}
 
 /// The form of a rendering that keeps conflicts, and where ending pieces stand.
-pub fn markers_stand() -> u8
+pub fn markers_stand()
     ensures { MarkersStand }
-{
-    0
-}
+{}
 
 /// The form of a union, and its endings.
-pub fn unions_stand() -> u8
+pub fn unions_stand()
     ensures { UnionsStand }
-{
-    0
-}
+{}
 
 /// When each mode says what.
-pub fn verdicts_stand() -> u8
+pub fn verdicts_stand()
     ensures { VerdictsStand }
-{
-    0
-}
+{}
 
 /// A rendering's outline, from the groups alone: no line lost or doubled.
-pub fn outlines_stand() -> u8
+pub fn outlines_stand()
     ensures { OutlinesStand }
-{
-    0
-}
+{}
 
 /// No rendering is longer than 32 bits can tell.
-pub fn lengths_stand() -> u8
+pub fn lengths_stand()
     ensures { LengthsStand }
-{
-    0
-}
+{}
 
 /// What two units that hold the same hunks, sides exchanged, agree on.
-pub fn units_agree() -> u8
+pub fn units_agree()
     ensures { UnitsAgree }
-{
-    0
-}
+{}
 
 /// When a table takes a hunk or lets one go, and what it holds then.
-pub fn tables_follow_rules() -> u8
+pub fn tables_follow_rules()
     ensures { TablesFollowRules }
-{
-    0
-}
+{}
 
 /// What a hunk table keeps through every run of calls.
-pub fn tables_keep() -> u8
+pub fn tables_keep()
     ensures { TablesKeep }
-{
-    0
-}
+{}
 
 /// The test of a side's hunks says what a table keeps of them.
-pub fn tables_tested() -> u8
+pub fn tables_tested()
     ensures { KeepsLaw }
-{
-    0
-}
+{}
 
 /// What is held is the accepted enters not withdrawn.
-pub fn held_stands() -> u8
+pub fn held_stands()
     ensures { HeldStands }
-{
-    0
-}
+{}
 
 /// The same calls, sides exchanged, get the same answers and leave the same hunks, sides exchanged.
-pub fn same_calls_same_hunks() -> u8
+pub fn same_calls_same_hunks()
     ensures { SameCallsSameHunks }
-{
-    0
-}
+{}
 
 /// What size and render ask, answer and leave in a sink of any kind.
-pub fn renders_follow_rules<K: Takes>() -> u8
+pub fn renders_follow_rules<K: Takes>()
     ensures { (t : Held) (s : AllSheets) → RenderRules K.Takes.value K.Takes.rule K.Takes.fresh t s }
-{
-    0
-}
+{}
 
 /// What accepted renders of two units show, told in words.
-pub fn two_units_agree() -> u8
+pub fn two_units_agree()
     ensures { (s : AllSheets) (u : UnitOf s) (v : UnitOf (exchanged_sheets s)) → TwoUnits s u v }
-{
-    0
-}
+{}
 
 /// What two units agree on after every two runs of calls, whatever kinds of sinks they render into.
-pub fn units_agree_over_runs<K: Takes, L: Takes>() -> u8
+pub fn units_agree_over_runs<K: Takes, L: Takes>()
     ensures { AgreementOverRuns K.Takes.value K.Takes.rule K.Takes.fresh L.Takes.value L.Takes.rule L.Takes.fresh }
-{
-    0
-}
+{}
 
 /// The same at two kinds of sink, one that keeps the pieces and one that keeps their bytes.
-pub fn units_agree_in_bytes() -> u8
+pub fn units_agree_in_bytes()
     ensures { UnitsAgreeOverRuns }
 {
     units_agree_over_runs::<Pieces, Bytes>()

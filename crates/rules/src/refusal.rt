@@ -1,9 +1,29 @@
-//! Why a call is refused. Each layer has an enum of its own that lists what it can answer; the layer, the number and the place of a case are
-//! definitions of that case in `specs/Refusals.antt`.
-ghost use Rattle.std.specs.Prelude.{◌≡◌, ℕ};
-ghost use Rattle.rules.specs.Refusals.{side_place, range_place, table_number, table_layer, table_place, render_number, render_layer, render_place};
+//! Why a call is refused. Each layer has an enum of its own that lists what it can answer; the layer, the number and the place of a case, and
+//! what is printed of it, are definitions of that case in `specs/Refusals.antt`.
+ghost use Rattle.std.specs.Prelude.{◌≡◌, ℕ, Some};
+ghost use Rattle.rules.specs.Refusals.{layer_word, side_place, range_place, table_number, table_layer, table_place, table_words, render_number, render_layer, render_place};
+ghost use Rattle.rules.specs.declared.refusal.Layer.{Layer as TheLayer};
 
 use crate::hunk::Side;
+use std::fmt;
+
+/// What each refusal tells: its number, the layer that refuses, and where.
+pub trait Refusal: Copy {
+    ghost number: { Self → ℕ };
+
+    ghost layer: { Self → TheLayer };
+
+    ghost place: { Self → ℕ };
+
+    fn number(self) -> u32
+        ensures { result ≡ number self };
+
+    fn layer(self) -> Layer
+        ensures { result ≡ layer self };
+
+    fn place(self) -> u32
+        ensures { result ≡ place self };
+}
 
 /// The layers that refuse.
 #[derive(Clone, Copy, PartialEq, Eq, Debug)]
@@ -53,30 +73,38 @@ pub enum RenderRefusal {
 }
 
 /// The place of a sheet in a refusal.
-fn side_place(side: Side) -> u32
-    ensures { result ≡ side_place side }
-{
-    match side {
-        Side::Ancestor => 0,
-        Side::Current => 1,
-        Side::Other => 2,
+impl From<Side> for u32 {
+    ghost from_gives = { λ side place. place ≡ side_place side };
+
+    fn from(side: Side) -> u32 {
+        match side {
+            Side::Ancestor => 0,
+            Side::Current => 1,
+            Side::Other => 2,
+        }
     }
 }
 
 /// The place of a hunk's range in a refusal.
-fn range_place(range: HunkRange) -> u32
-    ensures { result ≡ range_place range }
-{
-    match range {
-        HunkRange::Before => 0,
-        HunkRange::After => 1,
+impl From<HunkRange> for u32 {
+    ghost from_gives = { λ range place. place ≡ range_place range };
+
+    fn from(range: HunkRange) -> u32 {
+        match range {
+            HunkRange::Before => 0,
+            HunkRange::After => 1,
+        }
     }
 }
 
-impl TableRefusal {
-    pub fn number(self) -> u32
-        ensures { result ≡ table_number self }
-    {
+impl Refusal for TableRefusal {
+    ghost number = { table_number };
+
+    ghost layer = { table_layer };
+
+    ghost place = { table_place };
+
+    fn number(self) -> u32 {
         match self {
             TableRefusal::CountTooLarge(_) => 7,
             TableRefusal::NoHunksOfSide => 8,
@@ -88,39 +116,27 @@ impl TableRefusal {
         }
     }
 
-    pub fn layer(self) -> Layer
-        ensures { result ≡ table_layer self }
-    {
-        match self {
-            TableRefusal::CountTooLarge(_) => Layer::Table,
-            TableRefusal::NoHunksOfSide => Layer::Table,
-            TableRefusal::SideFull => Layer::Table,
-            TableRefusal::RangeOutside(_) => Layer::Table,
-            TableRefusal::HunkEmpty => Layer::Table,
-            TableRefusal::NotBehindLast => Layer::Table,
-            TableRefusal::NothingHeld => Layer::Table,
-        }
+    fn layer(self) -> Layer {
+        Layer::Table
     }
 
-    pub fn place(self) -> u32
-        ensures { result ≡ table_place self }
-    {
+    fn place(self) -> u32 {
         match self {
-            TableRefusal::CountTooLarge(side) => side_place(side),
-            TableRefusal::NoHunksOfSide => 0,
-            TableRefusal::SideFull => 0,
-            TableRefusal::RangeOutside(range) => range_place(range),
-            TableRefusal::HunkEmpty => 0,
-            TableRefusal::NotBehindLast => 0,
-            TableRefusal::NothingHeld => 0,
+            TableRefusal::CountTooLarge(side) => side.into(),
+            TableRefusal::RangeOutside(range) => range.into(),
+            _ => 0,
         }
     }
 }
 
-impl RenderRefusal {
-    pub fn number(self) -> u32
-        ensures { result ≡ render_number self }
-    {
+impl Refusal for RenderRefusal {
+    ghost number = { render_number };
+
+    ghost layer = { render_layer };
+
+    ghost place = { render_place };
+
+    fn number(self) -> u32 {
         match self {
             RenderRefusal::CountsDiffer(_) => 14,
             RenderRefusal::MarkerSize => 15,
@@ -129,25 +145,47 @@ impl RenderRefusal {
         }
     }
 
-    pub fn layer(self) -> Layer
-        ensures { result ≡ render_layer self }
-    {
-        match self {
-            RenderRefusal::CountsDiffer(_) => Layer::Render,
-            RenderRefusal::MarkerSize => Layer::Render,
-            RenderRefusal::LabelTooLong(_) => Layer::Render,
-            RenderRefusal::SinkTooSmall { .. } => Layer::Render,
-        }
+    fn layer(self) -> Layer {
+        Layer::Render
     }
 
-    pub fn place(self) -> u32
-        ensures { result ≡ render_place self }
-    {
+    fn place(self) -> u32 {
         match self {
-            RenderRefusal::CountsDiffer(side) => side_place(side),
-            RenderRefusal::MarkerSize => 0,
-            RenderRefusal::LabelTooLong(side) => side_place(side),
-            RenderRefusal::SinkTooSmall { .. } => 0,
+            RenderRefusal::CountsDiffer(side) => side.into(),
+            RenderRefusal::LabelTooLong(side) => side.into(),
+            _ => 0,
         }
+    }
+}
+
+impl fmt::Display for Layer {
+    ghost output = { λ layer. Some (layer_word layer) };
+
+    fn fmt<W: fmt::Write>(&self, f: &mut fmt::Formatter<W>) -> fmt::Result {
+        f.write_str(match self {
+            Self::Sheet => "sheet",
+            Self::Table => "table",
+            Self::Render => "render",
+        })
+    }
+}
+
+impl fmt::Display for TableRefusal {
+    ghost output = { λ refusal. Some (table_words refusal) };
+
+    fn fmt<W: fmt::Write>(&self, f: &mut fmt::Formatter<W>) -> fmt::Result {
+        f.write_str(match self {
+            Self::CountTooLarge(_) => "this sheet has more than 4096 lines",
+            Self::NoHunksOfSide => "no hunks are held of the ancestor",
+            Self::SideFull => "the side holds 256 hunks",
+            Self::RangeOutside(HunkRange::Before) =>
+                "the before range runs backward or past the ancestor's end",
+            Self::RangeOutside(HunkRange::After) =>
+                "the after range runs backward or past the sheet's end",
+            Self::HunkEmpty => "both ranges are empty",
+            Self::NotBehindLast =>
+                "the hunk does not lie behind the side's last one, with an ancestor line between",
+            Self::NothingHeld => "no hunk is held of the side",
+        })
     }
 }

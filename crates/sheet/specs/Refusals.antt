@@ -1,5 +1,5 @@
--- The number, the layer and the place of each refusal of this layer.
-use Rattle.std.specs.Prelude.{ℕ}
+-- The number, the layer and the place of each refusal of this layer, and the words that it is printed in.
+use Rattle.std.specs.Prelude.{ℕ, List, codes}
 use Rattle.rules.specs.declared.refusal.Layer.{Layer}
 use Rattle.rules.specs.declared.refusal.Layer.TheVariants.{Sheet}
 use Rattle.sheet.specs.declared.refusal.SheetRefusal.{SheetRefusal}
@@ -29,3 +29,12 @@ place_of TableTooSmall = 0
 place_of StartsAbsent = 0
 place_of CellsUnfit = 0
 place_of (BadCell n) = n
+
+-- What is printed of a sheet's refusal.
+abbrev pub words_of : SheetRefusal → List ℕ
+words_of TextTooLong = codes "the text has more than 60000 bytes"
+words_of TooManyLines = codes "the text has more than 4096 lines"
+words_of TableTooSmall = codes "the table of line starts has too few places"
+words_of StartsAbsent = codes "the table does not begin with the line starts"
+words_of CellsUnfit = codes "the memory is not made of whole cells, or has more than 1024"
+words_of (BadCell n) = codes "this cell holds no line"

@@ -1,7 +1,8 @@
-ghost use Rattle.std.specs.Prelude.{◌≡◌, ℕ};
-ghost use Rattle.sheet.specs.Refusals.{number_of, layer_of, place_of};
+ghost use Rattle.std.specs.Prelude.{Some};
+ghost use Rattle.sheet.specs.Refusals.{number_of, layer_of, place_of, words_of};
 
-use rules::refusal::Layer;
+use rules::refusal::{Layer, Refusal};
+use std::fmt;
 
 /// Why a sheet, or the table of its line starts, is refused.
 #[derive(Clone, Copy, PartialEq, Eq, Debug)]
@@ -20,10 +21,14 @@ pub enum SheetRefusal {
     BadCell(u32),
 }
 
-impl SheetRefusal {
-    pub fn number(self) -> u8
-        ensures { result ≡ number_of self }
-    {
+impl Refusal for SheetRefusal {
+    ghost number = { number_of };
+
+    ghost layer = { layer_of };
+
+    ghost place = { place_of };
+
+    fn number(self) -> u32 {
         match self {
             SheetRefusal::TextTooLong => 1,
             SheetRefusal::TooManyLines => 2,
@@ -34,19 +39,30 @@ impl SheetRefusal {
         }
     }
 
-    pub fn layer(self) -> Layer
-        ensures { result ≡ layer_of self }
-    {
+    fn layer(self) -> Layer {
         Layer::Sheet
     }
 
     /// The first bad cell, and 0 for every other refusal.
-    pub fn place(self) -> u32
-        ensures { result ≡ place_of self }
-    {
+    fn place(self) -> u32 {
         match self {
             SheetRefusal::BadCell(cell) => cell,
             _ => 0,
         }
+    }
+}
+
+impl fmt::Display for SheetRefusal {
+    ghost output = { λ refusal. Some (words_of refusal) };
+
+    fn fmt<W: fmt::Write>(&self, f: &mut fmt::Formatter<W>) -> fmt::Result {
+        f.write_str(match self {
+            Self::TextTooLong => "the text has more than 60000 bytes",
+            Self::TooManyLines => "the text has more than 4096 lines",
+            Self::TableTooSmall => "the table of line starts has too few places",
+            Self::StartsAbsent => "the table does not begin with the line starts",
+            Self::CellsUnfit => "the memory is not made of whole cells, or has more than 1024",
+            Self::BadCell(_) => "this cell holds no line",
+        })
     }
 }

@@ -1,4 +1,5 @@
 use rules::ending::Ending;
+use rules::refusal::Refusal;
 use sheet::line::{ending_of, same_line};
 use sheet::refusal::SheetRefusal;
 

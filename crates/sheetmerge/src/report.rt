@@ -1,10 +1,10 @@
 //! What is printed for a command: the command itself, and a refusal by its number.
-use crate::words::layer_word;
 use job::command::Command;
 use job::escape::show_bytes;
 use job::outcome::Outcome;
 use job::spell::{put, spell};
-use rules::refusal::Layer;
+use rules::refusal::Refusal;
+use std::fmt::Display;
 use std::io;
 use std::io::Write;
 
@@ -24,14 +24,11 @@ pub fn show_line(rt: &HostRuntime, bytes: &[u8]) -> io::Result<()> {
     rt.stdout().write_all(&report)
 }
 
-pub fn refuse(
-    rt: &HostRuntime,
-    number: u32,
-    layer: Layer,
-    place: u32,
-    words: &str,
-) -> io::Result<Outcome> {
-    let layer = layer_word(layer);
-    println!(rt; "refused {number} ({layer}), place {place}: {words}")?;
+/// Prints why a call is refused.
+pub fn refuse<R: Refusal + Display>(rt: &HostRuntime, refusal: R) -> io::Result<Outcome> {
+    let number = refusal.number();
+    let layer = refusal.layer();
+    let place = refusal.place();
+    println!(rt; "refused {number} ({layer}), place {place}: {refusal}")?;
     Ok(Outcome::Refused)
 }

@@ -1,7 +1,7 @@
 //! Sheets taken in, listed and shown row by row.
 use crate::report::{refuse, show_line};
 use crate::store::{Section, Stored};
-use crate::words::{ending_word, sheet_words};
+use crate::words::ending_word;
 use job::command::SheetKind;
 use job::outcome::Outcome;
 use rules::hunk::Side;
@@ -36,13 +36,7 @@ pub fn take_in(
             section.put(side, stored);
             Ok(Outcome::Done)
         }
-        Err(refusal) => refuse(
-            rt,
-            u32::from(refusal.number()),
-            refusal.layer(),
-            refusal.place(),
-            sheet_words(refusal),
-        ),
+        Err(refusal) => refuse(rt, refusal),
     }
 }
 

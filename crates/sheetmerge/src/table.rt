@@ -1,11 +1,9 @@
 //! The hunk table: opened, hunks entered and withdrawn, and what it holds.
 use crate::report::refuse;
 use crate::store::Section;
-use crate::words::table_words;
 use hunks::table::HunkTable;
 use job::outcome::Outcome;
 use rules::hunk::{Hunk, Side};
-use rules::refusal::TableRefusal;
 use sheet::sheet::Sheet;
 use std::io;
 
@@ -36,37 +34,27 @@ pub fn open(
             println!(rt; "{ancestor}, {current} and {other} lines, no hunks held")?;
             Ok(Outcome::Done)
         }
-        Err(refusal) => refuse_table(rt, refusal),
+        Err(refusal) => refuse(rt, refusal),
     }
 }
 
 pub fn enter(rt: &HostRuntime, table: &mut HunkTable, hunk: Hunk) -> io::Result<Outcome> {
     match table.enter(hunk) {
         Ok(count) => now_held(rt, count),
-        Err(refusal) => refuse_table(rt, refusal),
+        Err(refusal) => refuse(rt, refusal),
     }
 }
 
 pub fn withdraw(rt: &HostRuntime, table: &mut HunkTable, side: Side) -> io::Result<Outcome> {
     match table.withdraw(side) {
         Ok(count) => now_held(rt, count),
-        Err(refusal) => refuse_table(rt, refusal),
+        Err(refusal) => refuse(rt, refusal),
     }
 }
 
 fn now_held(rt: &HostRuntime, count: usize) -> io::Result<Outcome> {
     println!(rt; "{count} held of the side")?;
     Ok(Outcome::Done)
-}
-
-fn refuse_table(rt: &HostRuntime, refusal: TableRefusal) -> io::Result<Outcome> {
-    refuse(
-        rt,
-        refusal.number(),
-        refusal.layer(),
-        refusal.place(),
-        table_words(refusal),
-    )
 }
 
 /// Prints the hunks held, side by side.
