@@ -73,6 +73,6 @@ pub fitting_less : (t a : ℕ) (cs : List Chunk) → fitting t a cs < length cs 
 fitting_less t a cs h =
     ⊎_elim (λ (l : a < t + total cs). l) (λ (l : t + total cs ≤ a). absurd (omega (arith, fitting_all t a cs l))) (cases_lt a (t + total cs))
 
--- What a measuring pass over a tally comes to.
-pub measured : (t a u n : ℕ) (cs : List Chunk) → t ≡ 0 → n ≡ fitting t a cs → length cs ≤ n → u ≡ t + total (take n cs) → u ≡ total cs
-measured t a u n cs z f l e = e ∙ ap (λ (x : List Chunk). t + total x) (take_all n cs l) ∙ omega (arith, z)
+-- Where all have room, all are taken.
+pub taken_whole : (t a n : ℕ) (cs : List Chunk) → n ≡ fitting t a cs → t + total cs ≤ a → take n cs ≡ cs
+taken_whole t a n cs f h = take_all n cs (omega (arith, f, fitting_all t a cs h))

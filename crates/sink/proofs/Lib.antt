@@ -1,5 +1,5 @@
 pub mod Told
-pub mod Writes
+pub mod PageLaws
 pub mod Folds
 pub mod Given
 pub mod RowLaws

@@ -1,5 +1,5 @@
 -- What a sink answers.
-use Rattle.std.specs.Prelude.{ℕ, ◌+◌, ◌-◌, cond, List, [], ◌∷◌, Ok, Err, Result, nat_le}
+use Rattle.std.specs.Prelude.{ℕ, ◌+◌, ◌-◌, cond, List, [], ◌∷◌, Some, None, Option, Ok, Err, Result, nat_le}
 use Rattle.rules.specs.Pieces.{Chunk, size}
 use Rattle.sink.specs.declared.refusal.NoRoom.{NoRoom}
 use Rattle.sink.specs.declared.refusal.TooLong.{TooLong}
@@ -22,6 +22,10 @@ take_answer taken announced n = cond (nat_le (taken + n) announced) (Ok tt) (Err
 abbrev pub fitting : ℕ → ℕ → List Chunk → ℕ
 fitting taken announced [] = 0
 fitting taken announced (c ∷ cs) = cond (nat_le (taken + size c) announced) (fitting (taken + size c) announced cs + 1) 0
+
+-- A length, where it can be counted.
+abbrev pub counted : ℕ → Option ℕ
+counted n = cond (nat_le n largest) (Some n) None
 
 -- Pieces are written exactly when their length can be counted and is at most the sink's capacity.
 abbrev pub write_answer : ℕ → ℕ → Result (Unit {0}) Unwritten

@@ -5,7 +5,7 @@ use Rattle.sink.specs.declared.page.Page.{Page}
 
 -- A page's value is the bytes taken, which stand at the front of its buffer.
 abbrev pub page_value : Page → List ℕ
-page_value s = take s.taken s.buffer.now
+page_value s = take s.meter.taken s.buffer.now
 
 -- A piece adds its bytes.
 abbrev pub page_rule : List ℕ → Chunk → List ℕ

@@ -1,7 +1,6 @@
 -- What a row sink's fields mean.
-use Rattle.std.specs.Prelude.{take}
 use Rattle.sink.specs.Rows.{RowValue}
 use Rattle.sink.specs.declared.row.Row.{Row}
 
 abbrev pub row_value : Row → RowValue
-row_value s = record { wanted = s.wanted; newlines = s.newlines; bytes = take s.len s.bytes }
+row_value s = record { wanted = s.wanted; newlines = s.newlines; bytes = s.bytes.items }

@@ -1,6 +1,7 @@
 //! Pieces, and the sinks that they are given to.
 #![tactic(auto)]
 
+pub mod meter;
 pub mod page;
 pub mod piece;
 pub mod refusal;

@@ -56,12 +56,12 @@ impl<'a> Piece<'a> {
         ensures { result.now ≡ (chunk self.entry).bytes }
     {
         match self {
-            Piece::Common(b) => b,
-            Piece::Ours(b) => b,
-            Piece::Base(b) => b,
-            Piece::Theirs(b) => b,
-            Piece::Marker(b) => b,
-            Piece::Ending(b) => b,
+            Piece::Common(b)
+            | Piece::Ours(b)
+            | Piece::Base(b)
+            | Piece::Theirs(b)
+            | Piece::Marker(b)
+            | Piece::Ending(b) => b,
         }
     }
 }

@@ -1,7 +1,7 @@
 ghost use Rattle.std.specs.Prelude.{◌≡◌, ℕ, ◌+◌, ◌<◌, ◌≤◌, true, take as first, is_ok, is_err};
 ghost use Rattle.rules.specs.Pieces.{made, total};
 ghost use Rattle.sink.specs.Pieces.{chunks};
-ghost use Rattle.sink.specs.Answers.{fitting, write_answer};
+ghost use Rattle.sink.specs.Answers.{counted, fitting, write_answer};
 
 use crate::piece::Piece;
 use crate::refusal::{TooLong, Unwritten};
@@ -19,14 +19,24 @@ pub fn take_all<S: Sink>(sink: &mut S, pieces: &[Piece<'_>]) -> usize
     ensures rest { (k : ℕ) → S.Sink.taken sink.new ≤ k → S.Sink.rest sink.new k ≡ S.Sink.rest sink.old k }
     ensures untouched { result ≡ 0 → sink.new ≡ sink.old }
 {
-    let mut n = 0;
-    for p in pieces {
+    for (n, p) in pieces.iter().enumerate() {
         if sink.take(*p).is_err() {
             return n;
         }
-        n += 1;
     }
-    n
+    pieces.len()
+}
+
+// The length of the pieces together, measured over a tally, where it can be counted.
+fn length_of(pieces: &[Piece<'_>]) -> Option<usize>
+    ensures { result ≡ counted (total (chunks pieces.now)) }
+{
+    let mut tally = Tally::new();
+    let _ = tally.begin(usize::MAX);
+    if take_all(&mut tally, pieces) < pieces.len() {
+        return None;
+    }
+    Some(tally.count())
 }
 
 /// Measures the pieces over a tally, announces their length and gives them all; or refuses and changes nothing.
@@ -40,17 +50,8 @@ pub fn write_all<S: Sink>(sink: &mut S, pieces: &[Piece<'_>]) -> Result<(), Unwr
     ensures rest { (k : ℕ) → S.Sink.taken sink.new ≤ k → S.Sink.rest sink.new k ≡ S.Sink.rest sink.old k }
     ensures refused { is_err result ≡ true → sink.new ≡ sink.old }
 {
-    let mut tally = Tally::new();
-    let _ = tally.begin(usize::MAX);
-    if take_all(&mut tally, pieces) < pieces.len() {
-        return Err(Unwritten::Uncountable);
-    }
-    let needed = tally.count();
-    match sink.begin(needed) {
-        Err(TooLong { capacity }) => Err(Unwritten::TooLong { needed, capacity }),
-        Ok(()) => {
-            let _ = take_all(sink, pieces);
-            Ok(())
-        }
-    }
+    let needed = length_of(pieces).ok_or(Unwritten::Uncountable)?;
+    sink.begin(needed).map_err(|TooLong { capacity }| Unwritten::TooLong { needed, capacity })?;
+    let _ = take_all(sink, pieces);
+    Ok(())
 }

@@ -28,6 +28,7 @@ pub trait Sink {
     ghost within: { (s : Self) → (taken s ≤ announced s) × (announced s ≤ capacity s) };
 
     // What the sink leaves alone from a place on, as the rest of a lent memory: no take reaches behind the bytes taken.
+    // Stays: (c) no default for sinks that lend nothing: "a default sees no member", and the type of `rest` names `Rest`.
     ghost Rest: { Type 0 };
 
     ghost rest: { Self → ℕ → Rest };

@@ -4,11 +4,11 @@ ghost use Rattle.sink.specs.Answers.{largest};
 mod ops;
 mod reading;
 
+use crate::meter::Meter;
+
 /// A sink that only counts bytes, and as many as can be counted: what is measured goes through it first.
 #[derive(Drop)]
 pub struct Tally {
-    announced: usize,
-    taken: usize,
-    ghost within: { taken ≤ announced },
-    ghost fits: { announced ≤ largest },
+    meter: Meter,
+    ghost fits: { meter.announced ≤ largest },
 }

@@ -18,39 +18,27 @@ impl<'a> Sink for Page<'a> {
 
     ghost rule = { page_rule };
 
-    ghost taken = { λ s. s.taken };
+    ghost taken = { λ s. s.meter.taken };
 
-    ghost announced = { λ s. s.announced };
+    ghost announced = { λ s. s.meter.announced };
 
     ghost capacity = { λ s. length s.buffer.now };
 
-    ghost within = { λ s. (s.within, s.fits) };
+    ghost within = { λ s. (s.meter.within, s.fits) };
 
     ghost Rest = { ℕ × List ℕ };
 
     ghost rest = { page_rest };
 
     fn begin(&mut self, n: usize) -> Result<(), TooLong> {
-        let capacity = self.buffer.len();
-        if n > capacity {
-            return Err(TooLong { capacity });
-        }
-        self.taken = 0;
-        self.announced = n;
-        Ok(())
+        self.meter.begin(n, self.buffer.len())
     }
 
     fn take(&mut self, p: Piece<'_>) -> Result<(), NoRoom> {
         let bytes = p.bytes();
-        let at = self.taken;
-        let room = self.announced - at;
-        if bytes.len() > room {
-            return Err(NoRoom { room });
-        }
-        for (i, b) in bytes.iter().enumerate() {
-            self.buffer[at + i] = *b;
-        }
-        self.taken = at + bytes.len();
+        let at = self.meter.taken();
+        self.meter.take(bytes.len())?;
+        self.buffer[at..at + bytes.len()].copy_from_slice(bytes);
         Ok(())
     }
 }

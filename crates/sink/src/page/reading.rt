@@ -3,6 +3,7 @@ ghost use Rattle.rules.specs.Pieces.{Chunk, all_bytes, made};
 ghost use Rattle.sink.specs.PageState.{page_value};
 ghost use Rattle.sink.specs.contracts.page.ops.PageSink.TheImpl.{ghosts as meaning};
 
+use crate::meter::Meter;
 use crate::page::Page;
 
 impl<'a> Page<'a> {
@@ -14,8 +15,7 @@ impl<'a> Page<'a> {
     {
         Page {
             buffer,
-            announced: 0,
-            taken: 0,
+            meter: Meter::new(),
         }
     }
 
@@ -24,6 +24,6 @@ impl<'a> Page<'a> {
         ensures bytes { result.now ≡ page_value self.now }
         ensures joined { (cs : List Chunk) → meaning.value self.now ≡ made meaning.rule (meaning.fresh self.now) cs → result.now ≡ all_bytes cs }
     {
-        &self.buffer[..self.taken]
+        &self.buffer[..self.meter.taken()]
     }
 }

@@ -10,24 +10,22 @@ use crate::piece::Piece;
 use crate::refusal::{NoRoom, TooLong};
 use crate::row::Row;
 use crate::sink::Sink;
-use rules::limits::{ROW_CAPACITY, ROW_WIDTH};
+use rules::limits::ROW_CAPACITY;
 
 const NEWLINE: u8 = b'\n';
 
 impl Row {
-    // One more byte, which was announced.
+    // One more byte, which was counted as taken. Past the row's width it is not shown.
     fn show(&mut self, b: u8)
-        requires { self.old.taken < self.old.announced }
+        requires { self.old.newlines < self.old.meter.taken }
         ensures value { row_value self.new ≡ shows (row_value self.old) b }
-        ensures taken { self.new.taken ≡ self.old.taken + 1 }
-        ensures announced { self.new.announced ≡ self.old.announced }
+        ensures newlines { self.new.newlines ≤ self.old.newlines + 1 }
+        ensures meter { self.new.meter ≡ self.old.meter }
     {
-        self.taken += 1;
         if b == NEWLINE {
             self.newlines += 1;
-        } else if self.newlines == self.wanted && self.len < ROW_WIDTH {
-            self.bytes[self.len] = b;
-            self.len += 1;
+        } else if self.newlines == self.wanted {
+            let _ = self.bytes.try_push(b);
         }
     }
 }
@@ -41,37 +39,28 @@ impl Sink for Row {
 
     ghost rule = { row_rule };
 
-    ghost taken = { λ s. s.taken };
+    ghost taken = { λ s. s.meter.taken };
 
-    ghost announced = { λ s. s.announced };
+    ghost announced = { λ s. s.meter.announced };
 
     ghost capacity = { λ _. row_capacity };
 
-    ghost within = { λ s. (s.within, s.fits) };
+    ghost within = { λ s. (s.meter.within, s.fits) };
 
     ghost Rest = { Unit {0} };
 
     ghost rest = { λ _ _. tt };
 
     fn begin(&mut self, n: usize) -> Result<(), TooLong> {
-        if n > ROW_CAPACITY {
-            return Err(TooLong {
-                capacity: ROW_CAPACITY,
-            });
-        }
+        self.meter.begin(n, ROW_CAPACITY)?;
         self.newlines = 0;
-        self.len = 0;
-        self.taken = 0;
-        self.announced = n;
+        self.bytes.clear();
         Ok(())
     }
 
     fn take(&mut self, p: Piece<'_>) -> Result<(), NoRoom> {
         let bytes = p.bytes();
-        let room = self.announced - self.taken;
-        if bytes.len() > room {
-            return Err(NoRoom { room });
-        }
+        self.meter.take(bytes.len())?;
         for b in bytes {
             self.show(*b);
         }

@@ -4,8 +4,9 @@ ghost use Rattle.sink.specs.Rows.{fresh_row, shown_row};
 ghost use Rattle.sink.specs.RowState.{row_value};
 ghost use Rattle.sink.specs.contracts.row.ops.RowSink.TheImpl.{ghosts as meaning};
 
+use crate::meter::Meter;
 use crate::row::Row;
-use rules::limits::ROW_WIDTH;
+use arrayvec::ArrayVec;
 
 impl Row {
     /// A sink for row `wanted`, counted from 0, as after begin with 0.
@@ -17,10 +18,8 @@ impl Row {
         Row {
             wanted,
             newlines: 0,
-            bytes: [0; ROW_WIDTH],
-            len: 0,
-            announced: 0,
-            taken: 0,
+            bytes: ArrayVec::new(),
+            meter: Meter::new(),
         }
     }
 
@@ -29,6 +28,6 @@ impl Row {
         ensures bytes { result.now ≡ (row_value self.now).bytes }
         ensures row { (cs : List Chunk) → meaning.value self.now ≡ made meaning.rule (meaning.fresh self.now) cs → result.now ≡ shown_row self.now.wanted (all_bytes cs) }
     {
-        &self.bytes[..self.len]
+        self.bytes.as_slice()
     }
 }

@@ -12,37 +12,29 @@ use crate::tally::Tally;
 impl Sink for Tally {
     ghost Value = { ℕ };
 
-    ghost value = { λ s. s.taken };
+    ghost value = { λ s. s.meter.taken };
 
     ghost fresh = { λ _. 0 };
 
     ghost rule = { tally_rule };
 
-    ghost taken = { λ s. s.taken };
+    ghost taken = { λ s. s.meter.taken };
 
-    ghost announced = { λ s. s.announced };
+    ghost announced = { λ s. s.meter.announced };
 
     ghost capacity = { λ _. largest };
 
-    ghost within = { λ s. (s.within, s.fits) };
+    ghost within = { λ s. (s.meter.within, s.fits) };
 
     ghost Rest = { Unit {0} };
 
     ghost rest = { λ _ _. tt };
 
     fn begin(&mut self, n: usize) -> Result<(), TooLong> {
-        self.taken = 0;
-        self.announced = n;
-        Ok(())
+        self.meter.begin(n, usize::MAX)
     }
 
     fn take(&mut self, p: Piece<'_>) -> Result<(), NoRoom> {
-        let len = p.bytes().len();
-        let room = self.announced - self.taken;
-        if len > room {
-            return Err(NoRoom { room });
-        }
-        self.taken += len;
-        Ok(())
+        self.meter.take(p.bytes().len())
     }
 }

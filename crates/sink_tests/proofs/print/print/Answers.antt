@@ -12,18 +12,18 @@ returns c =
     let page : Page = c.write_all.new.sink in
     let start : Page = c.new-page.result in
     let e = c.write_all.ensures in
-    let k = e.rest page.taken (omega arith) in
+    let k = e.rest page.meter.taken (omega arith) in
     let n : page.buffer.ghost_name ≡ start.buffer.ghost_name = ap (λ x. x.0) k in
-    let d : drop page.taken page.buffer.now ≡ drop page.taken start.buffer.now = ap (λ x. x.1) k in
+    let d : drop page.meter.taken page.buffer.now ≡ drop page.meter.taken start.buffer.now = ap (λ x. x.1) k in
     let o = ap (λ r. r.ghost_name) c.new-page.ensures.buffer in
     let same = sym (n ∙ o) in
     let m : start.buffer.now ≡ c.args.buffer.now = ap (λ r. r.now) c.new-page.ensures.buffer in
     record {
       answer = e.answer ∙ ap (λ (xs : List ℕ). write_answer (total cs) (length xs)) m;
       written = λ t.
-          let v : take page.taken page.buffer.now ≡ all_bytes cs = e.value t ∙ made_bytes [] cs in
+          let v : take page.meter.taken page.buffer.now ≡ all_bytes cs = e.value t ∙ made_bytes [] cs in
           ◌∙◌ {b = page.buffer.now} (search rules)
-          (sym (take-append-drop page.taken page.buffer.now) ∙ ap (λ (xs : List ℕ). xs ++ drop page.taken page.buffer.now) v
-          ∙ ap (λ (xs : List ℕ). all_bytes cs ++ xs) (d ∙ ap (drop page.taken) m ∙ ap (λ (j : ℕ). drop j c.args.buffer.now) (e.taken t)));
+          (sym (take-append-drop page.meter.taken page.buffer.now) ∙ ap (λ (xs : List ℕ). xs ++ drop page.meter.taken page.buffer.now) v
+          ∙ ap (λ (xs : List ℕ). all_bytes cs ++ xs) (d ∙ ap (drop page.meter.taken) m ∙ ap (λ (j : ℕ). drop j c.args.buffer.now) (e.taken t)));
       refused = λ t. ◌∙◌ {b = page.buffer.now} (search rules) (ap (λ (p : Page). p.buffer.now) (e.refused t) ∙ m);
     }
