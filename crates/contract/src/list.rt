@@ -10,7 +10,8 @@ use rules::hunk::Hunk;
 
 /// What stands ahead of the place stays; a hunk that it cuts is lent and cut.
 fn keep_ahead<const N: usize>(list: &mut HunkList<N>, whole: usize, lines: u32)
-    requires { Placed whole lines (held list.old) }
+    requires placed { Placed whole lines (held list.old) }
+    requires fits { length (held list.old) ≤ N }
     ensures { held list.new ≡ ahead_at whole lines (held list.old) }
 {
     if lines == 0 {

@@ -1,6 +1,6 @@
 ghost use Rattle.std.specs.Prelude.{◌≡◌, ℕ, ◌+◌, ◌≤◌, ◌++◌, length};
 ghost use Rattle.std.specs.List.{AllByRecursion};
-ghost use Rattle.rules.specs.Limits.{max_removed};
+ghost use Rattle.rules.specs.Limits.{max_filled, max_removed};
 ghost use Rattle.rules.specs.Contraction.{contracted};
 ghost use Rattle.hunks.specs.Lists.{held};
 ghost use Rattle.rules.specs.Contraction.{Readable};
@@ -22,6 +22,7 @@ fn contract_front<T: ThreeSheets>(
 )
     requires ours { AllByRecursion (Readable (T.ThreeSheets.sheets three.now)) (held lead.old) }
     requires theirs { AllByRecursion (Readable (T.ThreeSheets.sheets three.now)) (held facing.old) }
+    ensures few { length (held lead.old) ≤ max_filled }
     ensures lead { held lead.new ≡ (shared_front_cut (T.ThreeSheets.sheets three.now) (held lead.old) (held facing.old) (held lead.old)).behind }
     ensures facing { held facing.new ≡ (shared_front_cut (T.ThreeSheets.sheets three.now) (held lead.old) (held facing.old) (held facing.old)).behind }
     ensures removed { held removed.new ≡ (shared_front_cut (T.ThreeSheets.sheets three.now) (held lead.old) (held facing.old) (held lead.old)).ahead }

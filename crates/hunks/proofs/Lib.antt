@@ -1,4 +1,3 @@
 pub mod Helds
-pub mod Shifting
 pub mod Entering
 pub mod Keeping

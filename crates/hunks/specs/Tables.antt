@@ -1,14 +1,13 @@
 -- A table of the code as a table of the rules.
 use Rattle.rules.specs.Runs.{Call as RulesCall, open_with, enter, withdraw}
 use Rattle.rules.specs.Tables.{Held}
-use Rattle.hunks.specs.Lists.{held}
 use Rattle.hunks.specs.declared.run.Call.{Call}
 use Rattle.hunks.specs.declared.run.Call.TheVariants.{Open, Enter, Withdraw}
 use Rattle.hunks.specs.declared.table.HunkTable.{HunkTable}
 
 -- The line counts, and the hunks of the two lists.
 abbrev pub model : HunkTable → Held
-model t = record { ancestor_lines = t.ancestor_lines; current_lines = t.current_lines; other_lines = t.other_lines; current = held t.current; other = held t.other }
+model t = record { ancestor_lines = t.ancestor_lines; current_lines = t.current_lines; other_lines = t.other_lines; current = t.current; other = t.other }
 
 -- The call of the rules that a call of the code stands for.
 abbrev pub call_of : Call → RulesCall

@@ -1,13 +1,21 @@
-ghost use Rattle.std.specs.Prelude.{◌≡◌, ℕ, ◌≤◌, length};
-
+use arrayvec::ArrayVec;
 use rules::hunk::Hunk;
+use std::marker::Model;
 
 mod ops;
 
-/// A list of at most N hunks: those in the first `len` places.
+/// A list of at most N hunks, which lie in the value itself.
 #[derive(Drop)]
 pub struct HunkList<const N: usize> {
-    items: [Hunk; N],
-    len: usize,
-    ghost fits: { (len ≤ N) × (length items ≡ N) },
+    items: ArrayVec<Hunk, N>,
+}
+
+// Clauses see the hunks held, in order.
+impl<const N: usize> Model for HunkList<N> {
+    ghost use Rattle.std.specs.Prelude.{List};
+    ghost use Rattle.rules.specs.declared.hunk.Hunk.{Hunk};
+
+    ghost Value = { List Hunk };
+
+    ghost view = { λ l. l.items.items };
 }

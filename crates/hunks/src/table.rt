@@ -1,6 +1,5 @@
-ghost use Rattle.std.specs.Prelude.{◌≡◌, ℕ, ◌≤◌, true};
-ghost use Rattle.hunks.specs.Lists.{held};
-ghost use Rattle.rules.specs.Limits.{max_lines};
+ghost use Rattle.std.specs.Prelude.{◌≡◌, ℕ, ◌≤◌, true, length};
+ghost use Rattle.rules.specs.Limits.{max_lines, max_hunks};
 ghost use Rattle.rules.specs.Tables.{keeps};
 ghost use Rattle.rules.specs.declared.hunk.Side.TheVariants.{Current, Other};
 
@@ -18,6 +17,6 @@ pub struct HunkTable {
     current: HunkList<MAX_HUNKS>,
     other: HunkList<MAX_HUNKS>,
     ghost few: { (ancestor_lines ≤ max_lines) × (current_lines ≤ max_lines) × (other_lines ≤ max_lines) },
-    ghost ours: { keeps ancestor_lines current_lines Current (held current) ≡ true },
-    ghost theirs: { keeps ancestor_lines other_lines Other (held other) ≡ true },
+    ghost ours: { (keeps ancestor_lines current_lines Current current ≡ true) × (length current ≤ max_hunks) },
+    ghost theirs: { (keeps ancestor_lines other_lines Other other ≡ true) × (length other ≤ max_hunks) },
 }

@@ -6,7 +6,6 @@ use Rattle.std.proofs.lemmas.Bool.{cond_both}
 use Rattle.rules.specs.declared.hunk.Hunk.{Hunk}
 use Rattle.rules.specs.declared.mode.ConflictStyle.{ConflictStyle}
 use Rattle.rules.specs.declared.mode.Conflict.TheVariants.{Keep, ResolveWithOurs, ResolveWithTheirs, ResolveWithUnion}
-use Rattle.rules.specs.Limits.{max_filled}
 use Rattle.rules.specs.Hunks.{Sheets}
 use Rattle.rules.specs.Walk.{is_current}
 use Rattle.rules.specs.Groups.{Cluster, from, to}
@@ -15,9 +14,6 @@ use Rattle.rules.specs.Contraction.{Readable}
 use Rattle.rules.specs.Sides.{Sides, contracts, contracted_by, sides_in, whole_sides}
 use Rattle.rules.specs.Blocks.{keep_steps, blocked}
 use Rattle.rules.specs.Unions.{union_steps}
-use Rattle.hunks.specs.declared.list.HunkList.{HunkList}
-use Rattle.hunks.specs.Lists.{held}
-use Rattle.hunks.proofs.Helds.{held_length}
 use Rattle.contract.proofs.Contracting.{readables}
 use Rattle.writing.specs.Sides.{sides_of, contracted_lists, lists_in, lists_differ, GroupsTold}
 
@@ -47,9 +43,6 @@ split_back all f b n e z = ap (drop n) e ∙ drop_at f b n (sym z)
 
 pub same_sides : (f f' l l' r r' b b' : List Hunk) → f ≡ f' → l ≡ l' → r ≡ r' → b ≡ b' → sides_of f l r b ≡ sides_of f' l' r' b'
 same_sides f f' l l' r r' b b' p q u v = cc
-
-pub held_few : (l : HunkList max_filled) → length (held l) ≤ max_filled
-held_few l = let e = held_length l in let f = l.fits.0 in omega arith
 
 -- A group's own sides.
 contracted_own : (s : Sheets) (b : Bool) (k : Cluster) → contracted_lists s b (ours_of k) (theirs_of k) ≡ contracted_by s b k

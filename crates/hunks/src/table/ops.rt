@@ -1,5 +1,4 @@
 ghost use Rattle.std.specs.Prelude.{◌≡◌, ℕ, ◌+◌, true, length, is_err};
-ghost use Rattle.hunks.specs.Lists.{held};
 ghost use Rattle.hunks.specs.Tables.{model};
 ghost use Rattle.rules.specs.Questions.{answered};
 ghost use Rattle.rules.specs.Tables.{new_table, held_of, held_at, count_of, within, changes, follows, hunk_questions, open_answer, open_after, enter_answer, enter_after, withdraw_answer, withdraw_after};
@@ -38,7 +37,7 @@ fn admit(
     lines: u32,
     hunk: Hunk,
 ) -> Result<usize, TableRefusal>
-    ensures { result ≡ answered (hunk_questions ancestor lines (held list.now) hunk) (length (held list.now) + 1) }
+    ensures { result ≡ answered (hunk_questions ancestor lines list.now hunk) (length list.now + 1) }
 {
     if list.len() >= MAX_HUNKS {
         return Err(TableRefusal::SideFull);

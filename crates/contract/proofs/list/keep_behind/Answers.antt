@@ -1,9 +1,8 @@
-use Rattle.std.proofs.Common.{◌≡◌, ◌-◌, ◌≤◌, length, sym, ap, ◌∙◌, subst, arith}
+use Rattle.std.proofs.Common.{◌≡◌, ◌-◌, ◌≤◌, length, sym, refl, ap, ◌∙◌, subst, arith}
 use Rattle.std.proofs.lemmas.List.{length-drop}
 use Rattle.rules.specs.declared.hunk.Hunk.{Hunk}
 use Rattle.rules.specs.Contraction.{hunk_size}
 use Rattle.hunks.specs.Lists.{held}
-use Rattle.hunks.proofs.Helds.{take_set_in}
 use Rattle.contract.proofs.Cutting.{placed_inside, behind_cut, lent_behind, lent_some, lent_none}
 use Rattle.contract.proofs.list.keep_behind.Goals as goal
 
@@ -23,7 +22,7 @@ returns-in-Some g c =
     let y = c.in-Some.hunk.now in
     let x = c.drop_lines.new.hunk in
     let lt = placed_inside c.args.whole c.args.lines hs c.requires (omega arith) in
-    behind_cut c.args.whole c.args.lines hs (held l) _ x y lt (omega arith) c.remove_front.ensures (lent_some (held l) 0 y c.in-Some.ensures.lent) c.drop_lines.ensures (take_set_in l.len l.items 0 x)
+    behind_cut c.args.whole c.args.lines hs (held l) _ x y lt (omega arith) c.remove_front.ensures (lent_some (held l) 0 y c.in-Some.ensures.lent) c.drop_lines.ensures refl
 
 pub returns-in_default : goal.returns-in_default
 returns-in_default g c =

@@ -2,7 +2,6 @@ use Rattle.std.proofs.Common.{length, ap, arith}
 use Rattle.hunks.specs.Lists.{held}
 use Rattle.rules.specs.Hunks.{side_lines}
 use Rattle.rules.specs.SharedLines.{shared_front}
-use Rattle.hunks.proofs.Helds.{held_length}
 use Rattle.contract.proofs.Contracting.{readable_cut, front_few, both_ends}
 use Rattle.contract.proofs.zealous.zealously_contract_hunks.Goals as goal
 
@@ -15,8 +14,7 @@ contract_back-requires g c =
     let e = ap length c.contract_front.ensures.removed in
     let f = ap length c.contract_front.ensures.lead in
     let h = front_few n a in
-    let k = held_length c.args.lead.now in
-    let m = c.args.lead.now.fits.0 in
+    let m = c.contract_front.ensures.few in
     record {
       ours = readable_cut s n a _ c.contract_front.ensures.lead c.requires.ours;
       theirs = readable_cut s n b _ c.contract_front.ensures.facing c.requires.theirs;

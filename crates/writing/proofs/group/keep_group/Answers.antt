@@ -1,7 +1,5 @@
-use Rattle.std.proofs.Common.{◌≡◌, ◌≤◌, List, ◌++◌, length, sym, ap, ◌∙◌, subst, ap₂}
+use Rattle.std.proofs.Common.{◌≡◌, List, ◌++◌, sym, ap, ◌∙◌, subst, ap₂}
 use Rattle.std.specs.List.{AllByRecursion}
-use Rattle.rules.specs.declared.hunk.Hunk.{Hunk}
-use Rattle.rules.specs.Limits.{max_filled}
 use Rattle.rules.specs.Walk.{is_current}
 use Rattle.rules.specs.Contraction.{Readable}
 use Rattle.rules.specs.Sides.{Sides}
@@ -11,7 +9,7 @@ use Rattle.writing.specs.States.{state, after, Room}
 use Rattle.rules.specs.Blocks.{keep_steps, blocked}
 use Rattle.writing.specs.Marks.{labels_in}
 use Rattle.writing.specs.Sides.{lists_in}
-use Rattle.writing.proofs.Grouping.{lists_readable, split_room, split_front, split_back, same_sides, held_few}
+use Rattle.writing.proofs.Grouping.{lists_readable, split_room, split_front, split_back, same_sides}
 use Rattle.writing.proofs.group.keep_group.Goals as goal
 
 pub split_at-requires : goal.split_at-requires
@@ -19,7 +17,7 @@ split_at-requires g c =
     let s = g.T.ThreeSheets.sheets c.args.three.now in
     let d = lists_in c.args.style s (is_current c.args.lead) (held c.args.ours.now) (held c.args.theirs.now) in
     let f = c.take_sides-in_front in
-    let all : c.as_slice-all.result.now ≡ d.front ++ d.back = c.as_slice-all.ensures ∙ f.ensures.removed in
+    let all : c.as_slice-all.result.now ≡ d.front ++ d.back = c.as_slice-all.ensures.value ∙ f.ensures.removed in
     split_room _ d.front d.back _ all f.ensures.count
 
 pub write_keep-requires : goal.write_keep-requires
@@ -27,11 +25,11 @@ write_keep-requires g c =
     let s = g.T.ThreeSheets.sheets c.args.three.now in
     let d = lists_in c.args.style s (is_current c.args.lead) (held c.args.ours.now) (held c.args.theirs.now) in
     let f = c.take_sides-in_front in
-    let all : c.as_slice-all.result.now ≡ d.front ++ d.back = c.as_slice-all.ensures ∙ f.ensures.removed in
+    let all : c.as_slice-all.result.now ≡ d.front ++ d.back = c.as_slice-all.ensures.value ∙ f.ensures.removed in
     let ef = c.split_at.ensures.front ∙ split_front _ d.front d.back _ all f.ensures.count in
     let eb = c.split_at.ensures.back ∙ split_back _ d.front d.back _ all f.ensures.count in
-    let el = c.as_slice-left.ensures ∙ f.ensures.left in
-    let er = c.as_slice-right.ensures ∙ f.ensures.right in
+    let el = c.as_slice-left.ensures.value ∙ f.ensures.left in
+    let er = c.as_slice-right.ensures.value ∙ f.ensures.right in
     let k : Sides → List Step = keep_steps c.args.style s c.args.size (labels_in c.args.labels) c.args.since c.args.range.start c.args.range.end in
     let e = ap k (same_sides _ _ _ _ _ _ _ _ ef el er eb) in
     let q = lists_readable c.args.style s (is_current c.args.lead) _ _ c.requires.ours c.requires.theirs in
@@ -39,7 +37,7 @@ write_keep-requires g c =
     record {
       within = c.requires.within;
       size = c.requires.size;
-      few = (subst (λ (z : List Hunk). length z ≤ max_filled) (sym c.as_slice-left.ensures) (held_few f.new.ours), subst (λ (z : List Hunk). length z ≤ max_filled) (sym c.as_slice-right.ensures) (held_few f.new.theirs));
+      few = (c.as_slice-left.ensures.fits, c.as_slice-right.ensures.fits);
       ahead = subst (AllByRecursion (Readable s)) (sym ef) q.front;
       ours = subst (AllByRecursion (Readable s)) (sym el) q.left;
       theirs = subst (AllByRecursion (Readable s)) (sym er) q.right;
@@ -52,11 +50,11 @@ returns g c =
     let s = g.T.ThreeSheets.sheets c.args.three.now in
     let d = lists_in c.args.style s (is_current c.args.lead) (held c.args.ours.now) (held c.args.theirs.now) in
     let f = c.take_sides-in_front in
-    let all : c.as_slice-all.result.now ≡ d.front ++ d.back = c.as_slice-all.ensures ∙ f.ensures.removed in
+    let all : c.as_slice-all.result.now ≡ d.front ++ d.back = c.as_slice-all.ensures.value ∙ f.ensures.removed in
     let ef = c.split_at.ensures.front ∙ split_front _ d.front d.back _ all f.ensures.count in
     let eb = c.split_at.ensures.back ∙ split_back _ d.front d.back _ all f.ensures.count in
-    let el = c.as_slice-left.ensures ∙ f.ensures.left in
-    let er = c.as_slice-right.ensures ∙ f.ensures.right in
+    let el = c.as_slice-left.ensures.value ∙ f.ensures.left in
+    let er = c.as_slice-right.ensures.value ∙ f.ensures.right in
     let k : Sides → List Step = keep_steps c.args.style s c.args.size (labels_in c.args.labels) c.args.since c.args.range.start c.args.range.end in
     let e = ap k (same_sides _ _ _ _ _ _ _ _ ef el er eb) in
     record {

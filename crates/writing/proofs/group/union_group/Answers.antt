@@ -1,7 +1,5 @@
-use Rattle.std.proofs.Common.{◌≡◌, ◌≤◌, List, ◌++◌, length, sym, ap, ◌∙◌, subst, ap₂}
+use Rattle.std.proofs.Common.{◌≡◌, List, ◌++◌, sym, ap, ◌∙◌, subst, ap₂}
 use Rattle.std.specs.List.{AllByRecursion}
-use Rattle.rules.specs.declared.hunk.Hunk.{Hunk}
-use Rattle.rules.specs.Limits.{max_filled}
 use Rattle.rules.specs.Walk.{is_current}
 use Rattle.rules.specs.Contraction.{Readable}
 use Rattle.rules.specs.Sides.{Sides}
@@ -10,7 +8,7 @@ use Rattle.hunks.specs.Lists.{held}
 use Rattle.writing.specs.States.{state, after, Room}
 use Rattle.rules.specs.Unions.{union_steps}
 use Rattle.writing.specs.Sides.{contracted_lists, lists_differ}
-use Rattle.writing.proofs.Grouping.{contracted_readable, split_room, split_front, split_back, same_sides, held_few}
+use Rattle.writing.proofs.Grouping.{contracted_readable, split_room, split_front, split_back, same_sides}
 use Rattle.writing.proofs.group.union_group.Goals as goal
 
 pub split_at-requires : goal.split_at-requires
@@ -18,7 +16,7 @@ split_at-requires g c =
     let s = g.T.ThreeSheets.sheets c.args.three.now in
     let d = contracted_lists s (is_current c.args.lead) (held c.args.ours.now) (held c.args.theirs.now) in
     let f = c.contract_sides-in_front in
-    let all : c.as_slice-all.result.now ≡ d.front ++ d.back = c.as_slice-all.ensures ∙ f.ensures.removed in
+    let all : c.as_slice-all.result.now ≡ d.front ++ d.back = c.as_slice-all.ensures.value ∙ f.ensures.removed in
     split_room _ d.front d.back _ all f.ensures.count
 
 pub hunks_differ-differ-requires : goal.hunks_differ-differ-requires
@@ -26,14 +24,14 @@ hunks_differ-differ-requires g c =
     let s = g.T.ThreeSheets.sheets c.args.three.now in
     let d = contracted_lists s (is_current c.args.lead) (held c.args.ours.now) (held c.args.theirs.now) in
     let f = c.contract_sides-in_front in
-    let all : c.as_slice-all.result.now ≡ d.front ++ d.back = c.as_slice-all.ensures ∙ f.ensures.removed in
+    let all : c.as_slice-all.result.now ≡ d.front ++ d.back = c.as_slice-all.ensures.value ∙ f.ensures.removed in
     let ef = c.split_at.ensures.front ∙ split_front _ d.front d.back _ all f.ensures.count in
     let eb = c.split_at.ensures.back ∙ split_back _ d.front d.back _ all f.ensures.count in
-    let el = c.as_slice-left.ensures ∙ f.ensures.left in
-    let er = c.as_slice-right.ensures ∙ f.ensures.right in
+    let el = c.as_slice-left.ensures.value ∙ f.ensures.left in
+    let er = c.as_slice-right.ensures.value ∙ f.ensures.right in
     let q = contracted_readable s (is_current c.args.lead) _ _ c.requires.ours c.requires.theirs in
     record {
-      few = (subst (λ (z : List Hunk). length z ≤ max_filled) (sym c.as_slice-left.ensures) (held_few f.new.ours), subst (λ (z : List Hunk). length z ≤ max_filled) (sym c.as_slice-right.ensures) (held_few f.new.theirs));
+      few = (c.as_slice-left.ensures.fits, c.as_slice-right.ensures.fits);
       ours = subst (AllByRecursion (Readable s)) (sym el) q.left;
       theirs = subst (AllByRecursion (Readable s)) (sym er) q.right;
     }
@@ -43,11 +41,11 @@ write_union-open-requires g c =
     let s = g.T.ThreeSheets.sheets c.args.three.now in
     let d = contracted_lists s (is_current c.args.lead) (held c.args.ours.now) (held c.args.theirs.now) in
     let f = c.contract_sides-in_front in
-    let all : c.as_slice-all.result.now ≡ d.front ++ d.back = c.as_slice-all.ensures ∙ f.ensures.removed in
+    let all : c.as_slice-all.result.now ≡ d.front ++ d.back = c.as_slice-all.ensures.value ∙ f.ensures.removed in
     let ef = c.split_at.ensures.front ∙ split_front _ d.front d.back _ all f.ensures.count in
     let eb = c.split_at.ensures.back ∙ split_back _ d.front d.back _ all f.ensures.count in
-    let el = c.as_slice-left.ensures ∙ f.ensures.left in
-    let er = c.as_slice-right.ensures ∙ f.ensures.right in
+    let el = c.as_slice-left.ensures.value ∙ f.ensures.left in
+    let er = c.as_slice-right.ensures.value ∙ f.ensures.right in
     let k : Sides → List Step = union_steps s in
     let e = ap k (same_sides _ _ _ _ _ _ _ _ ef el er eb) in
     let q = contracted_readable s (is_current c.args.lead) _ _ c.requires.ours c.requires.theirs in
@@ -65,11 +63,11 @@ returns g c =
     let s = g.T.ThreeSheets.sheets c.args.three.now in
     let d = contracted_lists s (is_current c.args.lead) (held c.args.ours.now) (held c.args.theirs.now) in
     let f = c.contract_sides-in_front in
-    let all : c.as_slice-all.result.now ≡ d.front ++ d.back = c.as_slice-all.ensures ∙ f.ensures.removed in
+    let all : c.as_slice-all.result.now ≡ d.front ++ d.back = c.as_slice-all.ensures.value ∙ f.ensures.removed in
     let ef = c.split_at.ensures.front ∙ split_front _ d.front d.back _ all f.ensures.count in
     let eb = c.split_at.ensures.back ∙ split_back _ d.front d.back _ all f.ensures.count in
-    let el = c.as_slice-left.ensures ∙ f.ensures.left in
-    let er = c.as_slice-right.ensures ∙ f.ensures.right in
+    let el = c.as_slice-left.ensures.value ∙ f.ensures.left in
+    let er = c.as_slice-right.ensures.value ∙ f.ensures.right in
     let k : Sides → List Step = union_steps s in
     let e = ap k (same_sides _ _ _ _ _ _ _ _ ef el er eb) in
     record {

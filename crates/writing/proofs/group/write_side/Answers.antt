@@ -11,7 +11,7 @@ use Rattle.writing.proofs.group.write_side.Goals as goal
 pub write_hunks-requires : goal.write_hunks-requires
 write_hunks-requires g c =
     let s = g.T.ThreeSheets.sheets c.args.three.now in
-    let e = c.as_slice-hunks.ensures in
+    let e = c.as_slice-hunks.ensures.value in
     let v = c.args.sink.now in
     record {
       readable = subst (AllByRecursion (Readable s)) (sym e) c.requires.readable;
@@ -22,6 +22,6 @@ pub returns : goal.returns
 returns g c =
     let s = g.T.ThreeSheets.sheets c.args.three.now in
     record {
-      written = c.write_hunks.ensures.written ∙ ap (after g.S.Sink.rule _) (ap (λ (z : List Hunk). each common (side_lines s z)) c.as_slice-hunks.ensures);
+      written = c.write_hunks.ensures.written ∙ ap (after g.S.Sink.rule _) (ap (λ (z : List Hunk). each common (side_lines s z)) c.as_slice-hunks.ensures.value);
       kept = c.write_hunks.ensures.kept;
     }
