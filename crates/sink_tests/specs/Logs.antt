@@ -1,5 +1,5 @@
 -- A log keeps the pieces themselves, as many as it has places.
-use Rattle.std.specs.Prelude.{ℕ, zero, suc, Bool, true, false, cond, List, [], ◌∷◌, ◌++◌, length, Some, None, Option, nat_lt}
+use Rattle.std.specs.Prelude.{ℕ, Bool, true, false, cond, List, [], ◌∷◌, ◌++◌, length, nat_lt}
 use Rattle.rules.specs.Pieces.{Chunk}
 
 -- The most bytes of a log, and its places.
@@ -20,9 +20,3 @@ fresh_log = record { pieces = []; lost = false }
 abbrev pub log_rule : LogValue → Chunk → LogValue
 log_rule v c =
     cond (nat_lt (length v.pieces) log_places) (record { pieces = v.pieces ++ c ∷ []; lost = v.lost }) (record { pieces = v.pieces; lost = true })
-
--- Piece n, or nothing past the last.
-abbrev pub nth : List Chunk → ℕ → Option Chunk
-nth [] n = None
-nth (c ∷ cs) zero = Some c
-nth (c ∷ cs) (suc n) = nth cs n

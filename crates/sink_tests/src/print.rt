@@ -30,8 +30,6 @@ pub fn row_of(n: u32, pieces: &[Piece<'_>]) -> Result<Row, Unwritten>
     ensures shown { IfOk result (λ row. (row_value row).bytes ≡ shown_row n (all_bytes (chunks pieces.now))) }
 {
     let mut row = Row::new(n);
-    match write_all(&mut row, pieces) {
-        Ok(()) => Ok(row),
-        Err(e) => Err(e),
-    }
+    write_all(&mut row, pieces)?;
+    Ok(row)
 }

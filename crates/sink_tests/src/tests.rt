@@ -72,10 +72,7 @@ fn bytes_behind_stay(rt: HostRuntime) {
 
 // Whether row `n` of the pieces is `expected`.
 fn row_is(n: u32, pieces: &[Piece<'_>], expected: &[u8]) -> bool {
-    match row_of(n, pieces) {
-        Ok(row) => row.shown() == expected,
-        Err(_) => false,
-    }
+    row_of(n, pieces).is_ok_and(|row| row.shown() == expected)
 }
 
 #[test]
@@ -174,10 +171,8 @@ fn the_first_refused_ends_a_run(rt: HostRuntime) {
 
 // Whether piece `n` of the log has this kind and these bytes.
 fn logged(log: &Log, n: usize, kind: Kind, bytes: &[u8]) -> bool {
-    match log.piece(n) {
-        Some(piece) => piece.kind() == kind && piece.bytes() == bytes,
-        None => false,
-    }
+    log.piece(n)
+        .is_some_and(|piece| piece.kind() == kind && piece.bytes() == bytes)
 }
 
 #[test]
