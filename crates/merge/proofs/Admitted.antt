@@ -1,5 +1,5 @@
 -- What yes to the questions that size and render share says, and what they answer then.
-use Rattle.std.proofs.Common.{◌≡◌, ℕ, ◌≤◌, Bool, true, false, eqb, leb, length, Some, None, Ok, Err, Option, sym, refl, ap, ◌∙◌, arith}
+use Rattle.std.proofs.Common.{◌≡◌, ℕ, ◌≤◌, Bool, true, false, eqb, leb, length, Some, None, Ok, Err, Option, refl, ap, ◌∙◌, arith}
 use Rattle.rules.specs.declared.hunk.Side.TheVariants.{Current, Other, Ancestor}
 use Rattle.rules.specs.declared.mode.Conflict as modes
 use Rattle.rules.specs.declared.refusal.RenderRefusal.{RenderRefusal}
@@ -14,7 +14,6 @@ use Rattle.rules.specs.RenderLaws.{Counted, SizeFits}
 use Rattle.rules.specs.Renders.{Asked, size_fits, label_fits, shared_questions, size_questions, size_answer, render_questions, needed, room}
 use Rattle.rules.specs.TableLaws.{TableKeeps}
 use Rattle.rules.specs.Tables.{Held}
-use Rattle.rules.proofs.Asking.{accepted}
 use Rattle.rules.proofs.Rendered.{counted_then, fit_then}
 use Rattle.rules.proofs.TableKeeps.{table_kept}
 
@@ -69,13 +68,6 @@ pub answered_yes : {A R : Type 0} (q : Option R) (x y : A) → answered q x ≡ 
 answered_yes None x y e = (refl, cc)
 answered_yes (Some w) x y e = let z : ◌≡◌ {A = ℕ} 0 1 = cc in absurd (omega arith)
 
--- What admit answers is what size does.
-pub refused_alike : {A : Type 0} (t : Held) (s : Sheets) (m : modes.Conflict) (l : Labels) (r : RenderRefusal) (x : A) → answered (size_questions t s m l) x ≡ Err r → Err r ≡ size_answer t s m l
-refused_alike t s m l r x e = sym (ap (λ (q : Option RenderRefusal). answered q (needed t s m l)) (answered_no (size_questions t s m l) x r e))
-
-pub sized : {A : Type 0} (t : Held) (s : Sheets) (m : modes.Conflict) (l : Labels) (x y : A) → answered (size_questions t s m l) x ≡ Ok y → size_answer t s m l ≡ Ok (needed t s m l)
-sized t s m l x y e = ap (λ (q : Option RenderRefusal). answered q (needed t s m l)) (accepted (size_questions t s m l) x y e)
-
 -- What render is asked: refused as size is, or for want of room, or not.
 pub refused_too : (t : Held) (s : Sheets) (a : Asked) (r : RenderRefusal) → size_answer t s a.mode a.labels ≡ Err r → render_questions t s a ≡ Some r
 refused_too t s a r e = shared_no t s a.mode a.labels (room (needed t s a.mode a.labels) a.capacity) r (answered_no (size_questions t s a.mode a.labels) (needed t s a.mode a.labels) r e)
@@ -89,9 +81,6 @@ module _ (t : Held) (s : Sheets) (a : Asked) (n : ℕ) (e : size_answer t s a.mo
 
   room_left : render_questions t s a ≡ room n a.capacity
   room_left = shared_next t s a.mode a.labels _ size_yes ∙ ap (λ (k : ℕ). room k a.capacity) size_is
-
-  pub too_small : leb n a.capacity ≡ false → render_questions t s a ≡ Some (SinkTooSmall n a.capacity)
-  too_small f = room_left ∙ ap (λ (b : Bool). ask b (SinkTooSmall n a.capacity) None) f
 
   pub has_room : leb n a.capacity ≡ true → render_questions t s a ≡ None
   has_room f = room_left ∙ ap (λ (b : Bool). ask b (SinkTooSmall n a.capacity) None) f

@@ -7,13 +7,11 @@ use Rattle.rules.specs.Pieces.{Chunk}
 use Rattle.rules.specs.Runs.{opening}
 use Rattle.rules.specs.TableLaws.{TableKeeps}
 use Rattle.rules.specs.Tables.{Held}
-use Rattle.rules.specs.Texts.{LineList}
 use Rattle.rules.specs.TwoUnits.{table_of}
 use Rattle.rules.proofs.Rendered.{accepted_counted}
 use Rattle.rules.proofs.RunAgreement.{agree_over_runs}
 use Rattle.rules.proofs.TableKeeps.{table_kept, tables_keep}
 use Rattle.rules.proofs.TwoUnits.{alike_shown}
-use Rattle.reading.specs.Three.{three_lists}
 use Rattle.merge.specs.Units.{Crosswise, ShownAlike, UnitsTold, KindsAgree}
 use Rattle.merge.proofs.Rendered.{render_told}
 
@@ -36,11 +34,8 @@ module _ {V V' : Type 0} (rule : V → Chunk → V) (fresh : V) (rule' : V' → 
     alike = λ x h. shown_alike s s' t t' keeps h (crosswise s s' x);
   }
 
-  pub kinds_agree : {A C O A' C' O' : Type 0} (a : A → LineList) (c : C → LineList) (o : O → LineList) (a' : A' → LineList) (c' : C' → LineList) (o' : O' → LineList) → KindsAgree a c o a' c' o' rule fresh rule' fresh'
-  kinds_agree a c o a' c' o' = record {
+  pub kinds_agree : KindsAgree rule fresh rule' fresh'
+  kinds_agree = record {
     over_runs = agree_over_runs _ _ _ _ _ _;
-    told = λ x y z x' y' z' u u'.
-        let s = three_lists (a x) (c y) (o z) in
-        let s' = three_lists (a' x') (c' y') (o' z') in
-        units_told s s' (table_of s u) (table_of s' u') (tables_keep (u.earlier ++ (opening s ∷ u.since))) (tables_keep (u'.earlier ++ (opening s' ∷ u'.since)));
+    told = λ s s' u u'. units_told s s' (table_of s u) (table_of s' u') (tables_keep (u.earlier ++ (opening s ∷ u.since))) (tables_keep (u'.earlier ++ (opening s' ∷ u'.since)));
   }

@@ -1,25 +1,16 @@
 -- How far a run has come, and what it has left once all its calls are made.
-use Rattle.std.proofs.Common.{◌≡◌, ℕ, suc, ◌+◌, ◌≤◌, true, List, [], ◌∷◌, map, length, drop, set, is_err, Some, None, Ok, Option, Result, sym, refl, ap, ◌∙◌, subst, ap₂, add-one, arith}
+use Rattle.std.proofs.Common.{◌≡◌, ℕ, suc, ◌+◌, ◌≤◌, List, [], ◌∷◌, map, length, drop, set, sym, refl, ap, ◌∙◌, subst, ap₂, add-one, arith}
 use native.Mathlib.Nat.{le-max_left, le-max_right}
 use Rattle.std.specs.List.{AllByRecursion}
 use Rattle.std.proofs.lemmas.List.{drop_all}
-use Rattle.std.proofs.lemmas.Bool.{le-leb}
-use Rattle.rules.specs.declared.mode.Resolution.{Resolution}
-use Rattle.rules.specs.declared.refusal.RenderRefusal.{RenderRefusal}
-use Rattle.rules.specs.declared.refusal.TableRefusal.{TableRefusal}
 use Rattle.rules.specs.Hunks.{Sheets}
-use Rattle.rules.specs.Pieces.{Chunk, total}
-use Rattle.rules.specs.Questions.{answered, changed}
-use Rattle.rules.specs.Renders.{Asked, render_answer, render_questions, render_sink, SinkState, filled_sink}
+use Rattle.rules.specs.Pieces.{Chunk}
+use Rattle.rules.specs.Renders.{SinkState}
 use Rattle.rules.specs.RunLaws.{FewLines}
 use Rattle.rules.specs.Runs.{Call as RulesCall, opening, NoOpening, after_call, after_calls, after_run, answer, answers}
-use Rattle.rules.specs.Tables.{Held, open_answer}
-use Rattle.rules.specs.Texts.{LineList}
-use Rattle.rules.specs.TwoUnits.{shown}
-use Rattle.rules.specs.Verdict.{verdict}
-use Rattle.rules.proofs.Asking.{then_yes}
+use Rattle.rules.specs.Tables.{Held}
 use Rattle.rules.proofs.TableKeeps.{after_both}
-use Rattle.reading.specs.Three.{three_lists}
+use Rattle.reading.specs.Three.{AllFormed}
 use Rattle.merge.specs.declared.run.Answer.{Answer}
 use Rattle.merge.specs.declared.run.Call.{Call}
 use Rattle.merge.specs.declared.run.Call.TheVariants.{Enter, Withdraw, Render}
@@ -42,16 +33,6 @@ pub noted_all : {A : Type 0} (xs ys : List A) → noted_from 0 xs ys ≡ written
 noted_all [] ys = refl
 noted_all (x ∷ xs) [] = noted_nowhere 1 xs
 noted_all {A} (x ∷ xs) (y ∷ ys) = noted_behind x 0 xs ys ∙ ap (λ (zs : List A). x ∷ zs) (noted_all xs ys)
-
--- What lies behind all that a render writes is kept: refused it changes nothing, and accepted it takes no more.
-module _ (t : Held) (s : Sheets) (a : Asked) {V : Type 0} (rule : V → Chunk → V) (fresh : V) (k k₀ : SinkState V) (r : Result Resolution RenderRefusal) (n : ℕ) (Same : Type 0) where
-  kept_by : (q : Option RenderRefusal) → r ≡ answered q (verdict a.mode s t.current t.other) → k ≡ changed q (filled_sink rule fresh (shown s t a)) k₀
-      → (is_err r ≡ true → Same) → (k.taken ≤ n → Same) → changed q (total (shown s t a)) 0 ≤ n → Same
-  kept_by None e f x y h = y (let z : k.taken ≡ total (shown s t a) = ap (λ (w : SinkState V). w.taken) f in omega arith)
-  kept_by (Some w) e f x y h = x (ap is_err e)
-
-  pub kept_behind : r ≡ render_answer t s a → k ≡ render_sink rule fresh t s a k₀ → (is_err r ≡ true → Same) → (k.taken ≤ n → Same) → changed (render_questions t s a) (total (shown s t a)) 0 ≤ n → Same
-  kept_behind = kept_by (render_questions t s a)
 
 module _ (s : Sheets) (cap : ℕ) where
   -- The answers of the code are those of the rules.
@@ -144,14 +125,6 @@ module _ (s : Sheets) (cap : ℕ) where
         rest = λ n h. (g.rest n (subst (λ (u : Held). furthest u (calls_in s cap xs) ≤ n) (sym p) (omega (arith, le-max_right 0 (furthest (after_call t₀ (opening s)) (calls_in s cap xs)), h)))).1;
       }
 
--- Every sheet keeps the limit of lines, so that the opening is accepted.
-pub few_lines : (a c o : LineList) → FewLines (three_lists a c o)
-few_lines a c o = record { ancestor = a.formed.1; current = c.formed.1; other = o.formed.1 }
-
-pub opening_accepted : (s : Sheets) → FewLines s → open_answer (length s.ancestor) (length s.current) (length s.other) ≡ Ok tt
-opening_accepted s few =
-    ap (λ (q : Option TableRefusal). answered q tt)
-    (then_yes _ _ _ (le-leb _ _ few.ancestor) (then_yes _ _ _ (le-leb _ _ few.current) (then_yes _ _ None (le-leb _ _ few.other) refl)))
-
-pub same_counts : {X : Type 0} (f : ℕ → ℕ → ℕ → X) (a a' c c' o o' : ℕ) → a ≡ a' → c ≡ c' → o ≡ o' → f a c o ≡ f a' c' o'
-same_counts f a a' c c' o o' p q r = cc
+-- Every sheet keeps the limit of lines.
+pub few_lines : (s : Sheets) → AllFormed s → FewLines s
+few_lines s f = record { ancestor = f.ancestor.1; current = f.current.1; other = f.other.1 }

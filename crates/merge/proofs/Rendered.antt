@@ -1,34 +1,38 @@
 -- What render answers and leaves, from what it was asked and what was written.
-use Rattle.std.proofs.Common.{◌≡◌, ℕ, Bool, false, List, Some, None, Ok, Err, Option, sym, refl, ap, ◌∙◌, arith}
+use Rattle.std.proofs.Common.{◌≡◌, ℕ, Bool, false, List, Some, None, Ok, Err, Option, Result, sym, refl, ap, ◌∙◌, arith}
+use Rattle.std.proofs.lemmas.Bool.{true≢false}
 use Rattle.rules.specs.declared.mode.Conflict as modes
 use Rattle.rules.specs.declared.mode.Conflict.TheVariants.{Keep, ResolveWithOurs, ResolveWithTheirs, ResolveWithUnion}
 use Rattle.rules.specs.declared.mode.Resolution.{Resolution}
 use Rattle.rules.specs.declared.refusal.RenderRefusal.{RenderRefusal}
+use Rattle.rules.specs.Groups.{clusters}
 use Rattle.rules.specs.Hunks.{Sheets}
 use Rattle.rules.specs.Order.{Kept}
 use Rattle.rules.specs.Pieces.{Chunk, total, made}
 use Rattle.rules.specs.Questions.{answered, changed}
-use Rattle.rules.specs.Rendering.{rendering}
+use Rattle.rules.specs.Rendering.{rendering, steps_from}
 use Rattle.rules.specs.Renders.{Asked, render_answer, render_questions, render_sink, SinkState, filled_sink}
 use Rattle.rules.specs.Steps.{Step, pieces_of}
 use Rattle.rules.specs.TableLaws.{TableKeeps}
 use Rattle.rules.specs.Tables.{Held}
 use Rattle.rules.specs.Verdict.{verdict}
+use Rattle.rules.specs.Walk.{walk}
 use Rattle.rules.proofs.Agreed.{laws}
 use Rattle.rules.proofs.Asking.{accepted}
 use Rattle.rules.proofs.Rendered.{accepted_counted}
 use Rattle.rules.proofs.TableKeeps.{table_kept}
 use Rattle.rules.proofs.TwoUnits.{one_unit, alike_shown}
-use Rattle.writing.specs.States.{State, state, after}
-use Rattle.merge.specs.Asking.{sink_at}
+use Rattle.sink.specs.declared.sink.Sink.{Ghosts}
+use Rattle.writing.specs.States.{State, state, after, Keeps}
+use Rattle.merge.specs.Sinks.{sink_at, Renders}
 use Rattle.merge.specs.Told.{ModeTold, RenderTold}
 
-pub same_sink : {V : Type 0} {an an' t t' : ℕ} {v v' : V} → an ≡ an' → t ≡ t' → v ≡ v' → sink_at an t v ≡ sink_at an' t' v'
-same_sink p q r = cc
+abbrev seen : {V : Type 0} → ℕ → ℕ → V → SinkState V
+seen announced taken value = record { announced = announced; taken = taken; value = value }
 
 -- A sink as writing leaves it that begins afresh.
-pub written_sink : {V : Type 0} (rule : V → Chunk → V) (fresh v v₀ : V) (t t₀ an an₀ : ℕ) (o : Bool) (ss : List Step) → state v t an o ≡ after rule (state v₀ t₀ an₀ false) ss
-    → v₀ ≡ fresh → t₀ ≡ 0 → an₀ ≡ total (pieces_of false ss) → sink_at an t v ≡ filled_sink rule fresh (pieces_of false ss)
+written_sink : {V : Type 0} (rule : V → Chunk → V) (fresh v v₀ : V) (t t₀ an an₀ : ℕ) (o : Bool) (ss : List Step) → state v t an o ≡ after rule (state v₀ t₀ an₀ false) ss
+    → v₀ ≡ fresh → t₀ ≡ 0 → an₀ ≡ total (pieces_of false ss) → seen an t v ≡ filled_sink rule fresh (pieces_of false ss)
 written_sink {V} rule fresh v v₀ t t₀ an an₀ o ss e p q r =
     let x : v ≡ made rule fresh (pieces_of false ss) = ap (λ (w : State V). w.value) e ∙ ap (λ (w : V). made rule w (pieces_of false ss)) p in
     let y : t ≡ total (pieces_of false ss) = (let z = ap (λ (w : State V). w.taken) e in omega arith) in
@@ -36,19 +40,6 @@ written_sink {V} rule fresh v v₀ t t₀ an an₀ o ss e p q r =
     cc
 
 module _ (t : Held) (s : Sheets) (a : Asked) where
-  pub refused_answer : (r : RenderRefusal) → render_questions t s a ≡ Some r → Err r ≡ render_answer t s a
-  refused_answer r e = sym (ap (λ (q : Option RenderRefusal). answered q (verdict a.mode s t.current t.other)) e)
-
-  pub given_answer : (v : Resolution) → v ≡ verdict a.mode s t.current t.other → render_questions t s a ≡ None → Ok v ≡ render_answer t s a
-  given_answer v p e = ap (λ (x : Resolution). Ok x) p ∙ sym (ap (λ (q : Option RenderRefusal). answered q (verdict a.mode s t.current t.other)) e)
-
-  module _ {V : Type 0} (rule : V → Chunk → V) (fresh : V) (k : SinkState V) where
-    pub refused_sink : (r : RenderRefusal) → render_questions t s a ≡ Some r → k ≡ render_sink rule fresh t s a k
-    refused_sink r e = sym (ap (λ (q : Option RenderRefusal). changed q (filled_sink rule fresh (rendering a.mode s a.labels t.current t.other)) k) e)
-
-    pub given_sink : render_questions t s a ≡ None → filled_sink rule fresh (rendering a.mode s a.labels t.current t.other) ≡ render_sink rule fresh t s a k
-    given_sink e = sym (ap (λ (q : Option RenderRefusal). changed q (filled_sink rule fresh (rendering a.mode s a.labels t.current t.other)) k) e)
-
   mode_told : (m : modes.Conflict) (v : Resolution) → a.mode ≡ m → Kept s t.current t.other → render_answer t s a ≡ Ok v → ModeTold m s t a v
   mode_told (Keep st n) v e p q = (one_unit s t p).keep st n a v e q
   mode_told ResolveWithOurs v e p q = (one_unit s t p).ours a v e q
@@ -59,16 +50,44 @@ module _ (t : Held) (s : Sheets) (a : Asked) where
   pub render_told : {V : Type 0} (rule : V → Chunk → V) (fresh : V) (v : Resolution) (k k₀ : SinkState V) → TableKeeps t → k ≡ render_sink rule fresh t s a k₀ → render_answer t s a ≡ Ok v → RenderTold rule fresh s t a v k
   render_told {V} rule fresh v k k₀ keeps e q =
       let n = accepted (render_questions t s a) (verdict a.mode s t.current t.other) v q in
-      let f : k ≡ filled_sink rule fresh (rendering a.mode s a.labels t.current t.other) = e ∙ sym (given_sink rule fresh k₀ n) in
+      let f : k ≡ filled_sink rule fresh (rendering a.mode s a.labels t.current t.other) = e ∙ ap (λ (x : Option RenderRefusal). changed x (filled_sink rule fresh (rendering a.mode s a.labels t.current t.other)) k₀) n in
       let c = accepted_counted t s a v q in
       let p = table_kept s t keeps c in
       record {
-        value = ap (λ (x : SinkState V). x.value) f;
-        taken = ap (λ (x : SinkState V). x.taken) f;
-        announced = ap (λ (x : SinkState V). x.announced) f;
+        value = ap (λ (w : SinkState V). w.value) f;
+        taken = ap (λ (w : SinkState V). w.taken) f;
+        announced = ap (λ (w : SinkState V). w.announced) f;
         counted = c;
         keeps = keeps;
         told = mode_told a.mode v refl p q;
         laws = laws s t.current t.other p;
         alike = λ t'. alike_shown s t t' p;
       }
+
+  module _ {S : Type 0} (k : Ghosts S) (old new : S) where
+    pub refused : (r : RenderRefusal) (result : Result Resolution RenderRefusal) → render_questions t s a ≡ Some r → result ≡ Err r → new ≡ old → Renders k t s a old new result
+    refused r result e p q = record {
+      answer = p ∙ sym (ap (λ (x : Option RenderRefusal). answered x (verdict a.mode s t.current t.other)) e);
+      sink = ap (sink_at k) q ∙ sym (ap (λ (x : Option RenderRefusal). changed x (filled_sink k.rule (k.fresh old) (rendering a.mode s a.labels t.current t.other)) (sink_at k old)) e);
+      kept = record { fresh = ap k.fresh q; capacity = ap k.capacity q; rest = λ j _. ap (λ (x : S). k.rest x j) q };
+      refused = λ _. q;
+    }
+
+    -- Begun with the rendering's length, and then written into.
+    pub given : (begun : S) (ajar : Bool) (v : Resolution) → render_questions t s a ≡ None → v ≡ verdict a.mode s t.current t.other
+        → k.value begun ≡ k.fresh old → k.taken begun ≡ 0 → k.announced begun ≡ total (rendering a.mode s a.labels t.current t.other)
+        → k.fresh begun ≡ k.fresh old → k.capacity begun ≡ k.capacity old → ((j : ℕ) → k.rest begun j ≡ k.rest old j)
+        → state (k.value new) (k.taken new) (k.announced new) ajar ≡ after k.rule (state (k.value begun) (k.taken begun) (k.announced begun) false) (steps_from a.mode s a.labels 0 (clusters (walk t.current t.other)))
+        → Keeps (k.fresh begun) (k.fresh new) (k.capacity begun) (k.capacity new) (k.taken begun) (k.taken new) (k.rest begun) (k.rest new)
+        → Renders k t s a old new (Ok v)
+    given begun ajar v e p value taken announced fresh capacity rest written kept = record {
+      answer = ap (λ (x : Resolution). Ok x) p ∙ sym (ap (λ (x : Option RenderRefusal). answered x (verdict a.mode s t.current t.other)) e);
+      sink =
+          written_sink k.rule (k.fresh old) _ _ _ _ _ _ ajar (steps_from a.mode s a.labels 0 (clusters (walk t.current t.other))) written value taken announced
+          ∙ sym (ap (λ (x : Option RenderRefusal). changed x (filled_sink k.rule (k.fresh old) (rendering a.mode s a.labels t.current t.other)) (sink_at k old)) e);
+      kept = record { fresh = kept.fresh_same ∙ fresh; capacity = kept.capacity_same ∙ capacity; rest = λ j h. kept.rest_same j h ∙ rest j };
+      refused = λ x. absurd (true≢false (sym x));
+    }
+
+    pub told : (result : Result Resolution RenderRefusal) → TableKeeps t → Renders k t s a old new result → (v : Resolution) → result ≡ Ok v → RenderTold k.rule (k.fresh old) s t a v (sink_at k new)
+    told result keeps r v e = render_told k.rule (k.fresh old) v (sink_at k new) (sink_at k old) keeps r.sink (sym r.answer ∙ e)

@@ -1,4 +1,5 @@
 pub mod Asking
+pub mod Sinks
 pub mod Told
 pub mod Units
 pub mod Calls

@@ -10,9 +10,7 @@ use Rattle.rules.specs.Pieces.{Chunk}
 use Rattle.rules.specs.Renders.{Asked, SinkState, render_answer, render_sink}
 use Rattle.rules.specs.RunAgreement.{AgreementOverRuns}
 use Rattle.rules.specs.Tables.{Held}
-use Rattle.rules.specs.Texts.{LineList}
 use Rattle.rules.specs.TwoUnits.{UnitOf, table_of, shown}
-use Rattle.reading.specs.Three.{three_lists}
 use Rattle.merge.specs.Told.{RenderTold}
 
 -- The lists of lines are equal crosswise.
@@ -32,9 +30,8 @@ pub record UnitsTold {V V' : Type 0} (rule : V → Chunk → V) (fresh : V) (rul
   pub second : (a : Asked) (k : SinkState V') (v : Resolution) → render_answer t' s' a ≡ Ok v → RenderTold rule' fresh' s' t' a v (render_sink rule' fresh' t' s' a k)
   pub alike : Crosswise s s' → HoldsExchanged t t' → ShownAlike s t s' t'
 
--- The agreement, whole: over all runs; and of any sheets of six kinds whose lists are equal crosswise, after all that two units did since each
--- was opened by its own sheets' counts.
-pub record KindsAgree {A C O A' C' O' V V' : Type 0} (a : A → LineList) (c : C → LineList) (o : O → LineList) (a' : A' → LineList) (c' : C' → LineList) (o' : O' → LineList) (rule : V → Chunk → V) (fresh : V) (rule' : V' → Chunk → V') (fresh' : V') : Type 0 where
+-- The agreement, whole: over all runs; and of any three sheets on each unit, of whatever kinds, after all that the two did since each was opened
+-- by its own sheets' counts.
+pub record KindsAgree {V V' : Type 0} (rule : V → Chunk → V) (fresh : V) (rule' : V' → Chunk → V') (fresh' : V') : Type 0 where
   pub over_runs : AgreementOverRuns V rule fresh V' rule' fresh'
-  pub told : (x : A) (y : C) (z : O) (x' : A') (y' : C') (z' : O') (u : UnitOf (three_lists (a x) (c y) (o z))) (u' : UnitOf (three_lists (a' x') (c' y') (o' z')))
-      → UnitsTold rule fresh rule' fresh' (three_lists (a x) (c y) (o z)) (table_of (three_lists (a x) (c y) (o z)) u) (three_lists (a' x') (c' y') (o' z')) (table_of (three_lists (a' x') (c' y') (o' z')) u')
+  pub told : (s s' : Sheets) (u : UnitOf s) (u' : UnitOf s') → UnitsTold rule fresh rule' fresh' s (table_of s u) s' (table_of s' u')

@@ -1,8 +1,9 @@
 //! The questions that size and render share.
-ghost use Rattle.std.specs.Prelude.{◌≡◌, length, ◌==◌};
+ghost use Rattle.std.specs.Prelude.{◌≡◌, length, ◌==◌, None};
 ghost use Rattle.std.specs.Option.{option_map};
+ghost use Rattle.rules.specs.declared.refusal.RenderRefusal.TheVariants.{CountsDiffer, MarkerSize, LabelTooLong};
 ghost use Rattle.rules.specs.Hunks.{sheet_of};
-ghost use Rattle.rules.specs.Questions.{answered};
+ghost use Rattle.rules.specs.Questions.{ask, answered};
 ghost use Rattle.rules.specs.Renders.{size_fits, label_fits, size_questions};
 ghost use Rattle.rules.specs.Tables.{count_of};
 ghost use Rattle.hunks.specs.Tables.{model};
@@ -16,30 +17,36 @@ use rules::limits::{MAX_LABEL, MAX_MARKER_SIZE};
 use rules::mode::Conflict;
 use rules::refusal::RenderRefusal;
 
-// Whether a sheet has the count of lines that the table was opened with.
-fn counts_agree<T: ThreeSheets>(three: &T, table: &HunkTable, side: Side) -> bool
-    ensures { result ≡ (length (sheet_of (T.ThreeSheets.sheets three.now) side) == count_of (model table.now) side) }
+// A sheet has the count of lines that the table was opened with.
+fn ask_count<T: ThreeSheets>(three: &T, table: &HunkTable, side: Side) -> Result<(), RenderRefusal>
+    ensures { result ≡ answered (ask (length (sheet_of (T.sheets three.now) side) == count_of (model table.now) side) (CountsDiffer side) None) tt }
 {
-    three.count_of(side) == table.lines(side)
-}
-
-// The marker size is asked for under Keep alone.
-fn size_fits(mode: Conflict) -> bool
-    ensures { result ≡ size_fits mode }
-{
-    match mode {
-        Conflict::Keep { marker_size, .. } => marker_size >= 1 && marker_size <= MAX_MARKER_SIZE,
-        Conflict::ResolveWithOurs | Conflict::ResolveWithTheirs | Conflict::ResolveWithUnion =>
-            true,
+    if three.count_of(side) == table.lines(side) {
+        Ok(())
+    } else {
+        Err(RenderRefusal::CountsDiffer(side))
     }
 }
 
-fn label_fits(label: Option<&[u8]>) -> bool
-    ensures { result ≡ label_fits (option_map (λ x. x.now) label.entry) }
+// The marker size is asked for under Keep alone.
+fn ask_marker_size(mode: Conflict) -> Result<(), RenderRefusal>
+    ensures { result ≡ answered (ask (size_fits mode) MarkerSize None) tt }
 {
-    match label {
-        None => true,
-        Some(bytes) => bytes.len() <= MAX_LABEL,
+    match mode {
+        Conflict::Keep { marker_size, .. } if !(1..=MAX_MARKER_SIZE).contains(&marker_size) => Err(
+            RenderRefusal::MarkerSize,
+        ),
+        _ => Ok(()),
+    }
+}
+
+fn ask_label(label: Option<&[u8]>, side: Side) -> Result<(), RenderRefusal>
+    ensures { result ≡ answered (ask (label_fits (option_map (λ x. x.now) label.entry)) (LabelTooLong side) None) tt }
+{
+    if label.is_none_or(|bytes| bytes.len() <= MAX_LABEL) {
+        Ok(())
+    } else {
+        Err(RenderRefusal::LabelTooLong(side))
     }
 }
 
@@ -50,28 +57,13 @@ pub fn admit<T: ThreeSheets>(
     mode: Conflict,
     labels: Labels<'_>,
 ) -> Result<(), RenderRefusal>
-    ensures { result ≡ answered (size_questions (model table.now) (T.ThreeSheets.sheets three.now) mode (labels_in labels.entry)) tt }
+    ensures { result ≡ answered (size_questions (model table.now) (T.sheets three.now) mode (labels_in labels.entry)) tt }
 {
-    if !counts_agree(three, table, Side::Ancestor) {
-        return Err(RenderRefusal::CountsDiffer(Side::Ancestor));
-    }
-    if !counts_agree(three, table, Side::Current) {
-        return Err(RenderRefusal::CountsDiffer(Side::Current));
-    }
-    if !counts_agree(three, table, Side::Other) {
-        return Err(RenderRefusal::CountsDiffer(Side::Other));
-    }
-    if !size_fits(mode) {
-        return Err(RenderRefusal::MarkerSize);
-    }
-    if !label_fits(labels.ancestor) {
-        return Err(RenderRefusal::LabelTooLong(Side::Ancestor));
-    }
-    if !label_fits(labels.current) {
-        return Err(RenderRefusal::LabelTooLong(Side::Current));
-    }
-    if !label_fits(labels.other) {
-        return Err(RenderRefusal::LabelTooLong(Side::Other));
-    }
-    Ok(())
+    ask_count(three, table, Side::Ancestor)?;
+    ask_count(three, table, Side::Current)?;
+    ask_count(three, table, Side::Other)?;
+    ask_marker_size(mode)?;
+    ask_label(labels.ancestor, Side::Ancestor)?;
+    ask_label(labels.current, Side::Current)?;
+    ask_label(labels.other, Side::Other)
 }

@@ -1,19 +1,18 @@
 //! A whole run of one unit: its opening, and then any calls, with its renders.
-ghost use Rattle.std.specs.Prelude.{◌≡◌, ℕ, ◌≤◌, List, ◌∷◌, map, Ok, slice_set};
+ghost use Rattle.std.specs.Prelude.{◌≡◌, List, ◌∷◌, map, Ok, slice_set};
 ghost use Rattle.rules.specs.RunAgreement.{AgreementOverRuns};
 ghost use Rattle.rules.specs.Runs.{Call as RulesCall, opening, opened_as, after_call, after_calls, after_run, answer as ruled_answer, answers as ruled_answers};
 ghost use Rattle.hunks.specs.Tables.{model};
-ghost use Rattle.reading.specs.Three.{three_lists};
-ghost use Rattle.merge.specs.Asking.{sink_at};
 ghost use Rattle.merge.specs.Calls.{call_in, calls_in, run_in, answer_in, answer_to, answers_to, written_over, call_sink, sink_after, written_by, furthest, UnitTable};
+ghost use Rattle.merge.specs.Sinks.{sink_at, KeepsBehind};
 
 use crate::render::render;
 use hunks::table::HunkTable;
+use reading::three::ThreeSheets;
 use rules::hunk::{Hunk, Side};
 use rules::labels::Labels;
 use rules::mode::{Conflict, Resolution};
 use rules::refusal::{RenderRefusal, TableRefusal};
-use sheet::sheet::Sheet;
 use sink::sink::Sink;
 
 /// A call to a unit's table, or a render of it.
@@ -32,31 +31,26 @@ pub enum Answer {
 }
 
 // One call, a render into the sink; and its answer.
-fn make_call<'a, A: Sheet, C: Sheet, O: Sheet, S: Sink>(
-    ancestor: &'a A,
-    current: &'a C,
-    other: &'a O,
+fn make_call<T: ThreeSheets, S: Sink>(
+    three: &T,
     table: &mut HunkTable,
     call: Call<'_>,
     sink: &mut S,
 ) -> Answer
-    ensures answer { result ≡ answer_to (three_lists (A.Sheet.sheet ancestor.now) (C.Sheet.sheet current.now) (O.Sheet.sheet other.now)) (S.Sink.capacity sink.old) (model table.old) call.entry }
-    ensures table { model table.new ≡ after_call (model table.old) (call_in (three_lists (A.Sheet.sheet ancestor.now) (C.Sheet.sheet current.now) (O.Sheet.sheet other.now)) (S.Sink.capacity sink.old) call.entry) }
-    ensures sink { sink_at (S.Sink.announced sink.new) (S.Sink.taken sink.new) (S.Sink.value sink.new) ≡ call_sink S.Sink.rule (S.Sink.fresh sink.old) (model table.old) (call_in (three_lists (A.Sheet.sheet ancestor.now) (C.Sheet.sheet current.now) (O.Sheet.sheet other.now)) (S.Sink.capacity sink.old) call.entry) (sink_at (S.Sink.announced sink.old) (S.Sink.taken sink.old) (S.Sink.value sink.old)) }
-    ensures fresh { S.Sink.fresh sink.new ≡ S.Sink.fresh sink.old }
-    ensures capacity { S.Sink.capacity sink.new ≡ S.Sink.capacity sink.old }
-    ensures rest { (k : ℕ) → written_by (model table.old) (call_in (three_lists (A.Sheet.sheet ancestor.now) (C.Sheet.sheet current.now) (O.Sheet.sheet other.now)) (S.Sink.capacity sink.old) call.entry) ≤ k → S.Sink.rest sink.new k ≡ S.Sink.rest sink.old k }
+    ensures answer { result ≡ answer_to (T.sheets three.now) (S.capacity sink.old) (model table.old) call.entry }
+    ensures table { model table.new ≡ after_call (model table.old) (call_in (T.sheets three.now) (S.capacity sink.old) call.entry) }
+    ensures sink { sink_at S.Sink sink.new ≡ call_sink S.rule (S.fresh sink.old) (model table.old) (call_in (T.sheets three.now) (S.capacity sink.old) call.entry) (sink_at S.Sink sink.old) }
+    ensures kept { KeepsBehind S.Sink (written_by (model table.old) (call_in (T.sheets three.now) (S.capacity sink.old) call.entry)) sink.old sink.new }
 {
     match call {
         Call::Enter(hunk) => Answer::Counted(table.enter(hunk)),
         Call::Withdraw(side) => Answer::Counted(table.withdraw(side)),
-        Call::Render { mode, labels } => Answer::Judged(render(
-            ancestor, current, other, table, mode, labels, sink,
-        )),
+        Call::Render { mode, labels } => Answer::Judged(render(three, table, mode, labels, sink)),
     }
 }
 
 // Notes an answer at place n, if there is one.
+// Stays: (c) after `answers.get_mut(n)`, and over `answers.iter_mut()`, a proof knows the length of the slice alone.
 fn note(answers: &mut [Answer], n: usize, answer: Answer)
     ensures { answers.new ≡ slice_set answers.old n answer }
 {
@@ -66,30 +60,30 @@ fn note(answers: &mut [Answer], n: usize, answer: Answer)
 }
 
 /// Opens the table with the three sheets' counts of lines and makes the calls in order, each render into the sink; one that is refused changes nothing, and the next is made. The answers are noted from the front of `answers`, as many as there are places. Answers what the opening did.
-pub fn run<'a, A: Sheet, C: Sheet, O: Sheet, S: Sink>(
-    ancestor: &'a A,
-    current: &'a C,
-    other: &'a O,
+pub fn run<T: ThreeSheets, S: Sink>(
+    three: &T,
     table: &mut HunkTable,
     calls: &[Call<'_>],
     answers: &mut [Answer],
     sink: &mut S,
 ) -> Result<(), TableRefusal>
-    ensures opened { opened_as result ≡ ruled_answer (model table.old) (opening (three_lists (A.Sheet.sheet ancestor.now) (C.Sheet.sheet current.now) (O.Sheet.sheet other.now))) }
+    ensures opened { opened_as result ≡ ruled_answer (model table.old) (opening (T.sheets three.now)) }
     ensures accepted { result ≡ Ok tt }
-    ensures table { model table.new ≡ after_calls (model table.old) (run_in (three_lists (A.Sheet.sheet ancestor.now) (C.Sheet.sheet current.now) (O.Sheet.sheet other.now)) (S.Sink.capacity sink.old) calls.now) }
-    ensures noted { answers.new ≡ written_over (answers_to (three_lists (A.Sheet.sheet ancestor.now) (C.Sheet.sheet current.now) (O.Sheet.sheet other.now)) (S.Sink.capacity sink.old) (after_call (model table.old) (opening (three_lists (A.Sheet.sheet ancestor.now) (C.Sheet.sheet current.now) (O.Sheet.sheet other.now)))) calls.now) answers.old }
-    ensures answers { opened_as result ∷ map answer_in (answers_to (three_lists (A.Sheet.sheet ancestor.now) (C.Sheet.sheet current.now) (O.Sheet.sheet other.now)) (S.Sink.capacity sink.old) (after_call (model table.old) (opening (three_lists (A.Sheet.sheet ancestor.now) (C.Sheet.sheet current.now) (O.Sheet.sheet other.now)))) calls.now) ≡ ruled_answers (model table.old) (run_in (three_lists (A.Sheet.sheet ancestor.now) (C.Sheet.sheet current.now) (O.Sheet.sheet other.now)) (S.Sink.capacity sink.old) calls.now) }
-    ensures sink { sink_at (S.Sink.announced sink.new) (S.Sink.taken sink.new) (S.Sink.value sink.new) ≡ sink_after S.Sink.rule (S.Sink.fresh sink.old) (model table.old) (run_in (three_lists (A.Sheet.sheet ancestor.now) (C.Sheet.sheet current.now) (O.Sheet.sheet other.now)) (S.Sink.capacity sink.old) calls.now) (sink_at (S.Sink.announced sink.old) (S.Sink.taken sink.old) (S.Sink.value sink.old)) }
-    ensures fresh { S.Sink.fresh sink.new ≡ S.Sink.fresh sink.old }
-    ensures capacity { S.Sink.capacity sink.new ≡ S.Sink.capacity sink.old }
-    ensures rest { (k : ℕ) → furthest (model table.old) (run_in (three_lists (A.Sheet.sheet ancestor.now) (C.Sheet.sheet current.now) (O.Sheet.sheet other.now)) (S.Sink.capacity sink.old) calls.now) ≤ k → S.Sink.rest sink.new k ≡ S.Sink.rest sink.old k }
-    ensures unit { (xs : List RulesCall) → model table.old ≡ after_run xs → UnitTable (three_lists (A.Sheet.sheet ancestor.now) (C.Sheet.sheet current.now) (O.Sheet.sheet other.now)) xs (calls_in (three_lists (A.Sheet.sheet ancestor.now) (C.Sheet.sheet current.now) (O.Sheet.sheet other.now)) (S.Sink.capacity sink.old) calls.now) (model table.new) }
-    ensures law { AgreementOverRuns S.Sink.Value S.Sink.rule (S.Sink.fresh sink.old) S.Sink.Value S.Sink.rule (S.Sink.fresh sink.old) }
+    ensures table { model table.new ≡ after_calls (model table.old) (run_in (T.sheets three.now) (S.capacity sink.old) calls.now) }
+    ensures noted { answers.new ≡ written_over (answers_to (T.sheets three.now) (S.capacity sink.old) (after_call (model table.old) (opening (T.sheets three.now))) calls.now) answers.old }
+    ensures answers { opened_as result ∷ map answer_in (answers_to (T.sheets three.now) (S.capacity sink.old) (after_call (model table.old) (opening (T.sheets three.now))) calls.now) ≡ ruled_answers (model table.old) (run_in (T.sheets three.now) (S.capacity sink.old) calls.now) }
+    ensures sink { sink_at S.Sink sink.new ≡ sink_after S.rule (S.fresh sink.old) (model table.old) (run_in (T.sheets three.now) (S.capacity sink.old) calls.now) (sink_at S.Sink sink.old) }
+    ensures kept { KeepsBehind S.Sink (furthest (model table.old) (run_in (T.sheets three.now) (S.capacity sink.old) calls.now)) sink.old sink.new }
+    ensures unit { (xs : List RulesCall) → model table.old ≡ after_run xs → UnitTable (T.sheets three.now) xs (calls_in (T.sheets three.now) (S.capacity sink.old) calls.now) (model table.new) }
+    ensures law { AgreementOverRuns S.Value S.rule (S.fresh sink.old) S.Value S.rule (S.fresh sink.old) }
 {
-    let opened = table.open(ancestor.count(), current.count(), other.count());
+    let opened = table.open(
+        three.count_of(Side::Ancestor),
+        three.count_of(Side::Current),
+        three.count_of(Side::Other),
+    );
     for (n, call) in calls.iter().enumerate() {
-        let answer = make_call(ancestor, current, other, table, *call, sink);
+        let answer = make_call(three, table, *call, sink);
         note(answers, n, answer);
     }
     opened

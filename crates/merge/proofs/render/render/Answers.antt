@@ -1,37 +1,55 @@
-use Rattle.std.proofs.Common.{◌≡◌, sym, ap, ◌∙◌}
-use Rattle.rules.specs.Hunks.{Sheets}
-use Rattle.rules.specs.Renders.{render_answer, render_sink}
-use Rattle.rules.specs.Texts.{LineList}
+use Rattle.std.proofs.Common.{ℕ, ◌≤◌, Bool, cond, Ok, sym, refl, ap, ◌∙◌, rules}
+use Rattle.std.proofs.lemmas.Bool.{le-leb}
+use Rattle.rules.specs.declared.mode.Resolution.TheVariants.{Complete}
+use Rattle.rules.specs.Verdict.{marked_verdict}
 use Rattle.rules.proofs.RunAgreement.{agree_over_runs}
 use Rattle.hunks.specs.Tables.{model}
 use Rattle.hunks.proofs.Keeping.{table_keeps}
-use Rattle.reading.specs.Three.{three_lists}
-use Rattle.merge.specs.Asking.{asked, sink_at}
-use Rattle.merge.proofs.Rendered.{render_told}
+use Rattle.merge.specs.Asking.{asked}
+use Rattle.merge.proofs.Admitted.{admitted, size_yes, size_is, refused_too, has_room}
+use Rattle.merge.proofs.Rendered.{refused, given, told}
 use Rattle.merge.proofs.render.render.Goals as goal
 
-same_three : (a a' c c' o o' : LineList) → a ≡ a' → c ≡ c' → o ≡ o' → three_lists a c o ≡ three_lists a' c' o'
-same_three a a' c c' o o' p q r = cc
+pub returns-in_err-needed-clause-renders : goal.returns-in_err-needed-clause-renders
+returns-in_err-needed-clause-renders g c =
+    let t = model c.args.table.now in
+    let s = g.T.ThreeSheets.sheets c.args.three.now in
+    let a = asked c.args.mode c.args.labels (g.S.Sink.capacity c.args.sink.now) in
+    let r = c.in_err-needed.field-0.0 in
+    refused t s a g.S.Sink _ _ r _ (refused_too t s a r (sym c.in_err-needed.ensures)) (search rules) refl
+
+pub returns-in_err-needed-clause-law : goal.returns-in_err-needed-clause-law
+returns-in_err-needed-clause-law g c = agree_over_runs _ _ _ _ _ _
+
+pub returns-in_err-map_err-clause-law : goal.returns-in_err-map_err-clause-law
+returns-in_err-map_err-clause-law g c = agree_over_runs _ _ _ _ _ _
+
+pub write_merge-marked-requires-clause-hunks : goal.write_merge-marked-requires-clause-hunks
+write_merge-marked-requires-clause-hunks g c =
+    let t = model c.args.table.now in
+    let s = g.T.ThreeSheets.sheets c.args.three.now in
+    let a = asked c.args.mode c.args.labels (g.S.Sink.capacity c.args.sink.now) in
+    rw (c.current.ensures, c.other.ensures)
+    (admitted t s a.mode a.labels (table_keeps c.args.table.now) (size_yes t s a _ (sym c.in_ok-needed.ensures))).kept
 
 pub returns : goal.returns
 returns g c =
     let t = model c.args.table.now in
-    let a = asked c.args.mode c.args.labels (g.S.Sink.capacity c.args.sink.now) in
-    let s : Sheets = three_lists (g.A.Sheet.sheet c.args.ancestor.now) (g.C.Sheet.sheet c.args.current.now) (g.O.Sheet.sheet c.args.other.now) in
-    let x = c.sheets_of-three.ensures in
-    let e = same_three _ _ _ _ _ _ (ap g.A.Sheet.sheet x.ancestor) (ap g.C.Sheet.sheet x.current) (ap g.O.Sheet.sheet x.other) in
-    let r = c.render_of.ensures in
-    let k₀ = sink_at (g.S.Sink.announced c.args.sink.now) (g.S.Sink.taken c.args.sink.now) (g.S.Sink.value c.args.sink.now) in
-    let k₁ = sink_at (g.S.Sink.announced c.render_of.new.sink) (g.S.Sink.taken c.render_of.new.sink) (g.S.Sink.value c.render_of.new.sink) in
-    let answer : c.render_of.result ≡ render_answer t s a = r.answer ∙ ap (λ (y : Sheets). render_answer t y a) e in
-    let sink : k₁ ≡ render_sink g.S.Sink.rule (g.S.Sink.fresh c.args.sink.now) t s a k₀ = r.sink ∙ ap (λ (y : Sheets). render_sink g.S.Sink.rule (g.S.Sink.fresh c.args.sink.now) t y a k₀) e in
+    let s = g.T.ThreeSheets.sheets c.args.three.now in
+    let cap : ℕ = g.S.Sink.capacity c.args.sink.now in
+    let a = asked c.args.mode c.args.labels cap in
+    let n = c.in_ok-needed.needed in
+    let e = sym c.in_ok-needed.ensures in
+    let b = c.begin.ensures in
+    let w = c.write_merge-marked.ensures in
+    let fits : n ≤ cap = search rules in
+    let renders = given t s a g.S.Sink c.args.sink.now c.write_merge-marked.new.sink c.begin.new.self _ c.verdict_of.result
+    (has_room t s a n e (le-leb n cap fits))
+    (c.verdict_of.ensures ∙ ap (λ (x : Bool). cond x (marked_verdict c.args.mode) Complete) (rw (c.current.ensures, c.other.ensures) at w.marked))
+    (b.value fits) (b.taken fits) (b.announced fits ∙ sym (size_is t s a n e)) b.fresh b.capacity b.rest
+    (rw (c.current.ensures, c.other.ensures) at w.written) w.kept in
     record {
-      answer = answer;
-      sink = sink;
-      fresh = r.fresh;
-      capacity = r.capacity;
-      rest = r.rest;
-      refused = r.refused;
-      told = λ v h. render_told t s a g.S.Sink.rule (g.S.Sink.fresh c.args.sink.now) v k₁ k₀ (table_keeps c.args.table.now) sink (sym answer ∙ h);
+      renders = renders;
+      told = told t s a g.S.Sink c.args.sink.now c.write_merge-marked.new.sink (Ok c.verdict_of.result) (table_keeps c.args.table.now) renders;
       law = agree_over_runs _ _ _ _ _ _;
     }

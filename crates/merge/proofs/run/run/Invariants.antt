@@ -1,16 +1,13 @@
 use Rattle.std.proofs.Common.{◌≡◌}
 use Rattle.hunks.specs.Tables.{model}
-use Rattle.reading.specs.Three.{three_lists}
-use Rattle.merge.specs.Asking.{sink_at}
+use Rattle.merge.specs.Sinks.{sink_at}
 use Rattle.merge.proofs.Ran.{Going}
 use Rattle.merge.proofs.run.run.Given as goal
 
 abbrev pub invariant-loop-n : goal.invariant-loop-n
 invariant-loop-n g l =
-    Going (three_lists (g.A.Sheet.sheet l.ancestor) (g.C.Sheet.sheet l.current) (g.O.Sheet.sheet l.other)) (g.S.Sink.capacity l.initial.sink)
-    g.S.Sink.rule (g.S.Sink.fresh l.initial.sink) (model l.initial.table) (model l.table)
-    (sink_at (g.S.Sink.announced l.initial.sink) (g.S.Sink.taken l.initial.sink) (g.S.Sink.value l.initial.sink))
-    (sink_at (g.S.Sink.announced l.sink) (g.S.Sink.taken l.sink) (g.S.Sink.value l.sink))
+    Going (g.T.ThreeSheets.sheets l.three) (g.S.Sink.capacity l.initial.sink) g.S.Sink.rule (g.S.Sink.fresh l.initial.sink)
+    (model l.initial.table) (model l.table) (sink_at g.S.Sink l.initial.sink) (sink_at g.S.Sink l.sink)
     l.initial.answers l.answers l.calls l.n (λ k. g.S.Sink.rest l.sink k ≡ g.S.Sink.rest l.initial.sink k)
     × (g.S.Sink.fresh l.sink ≡ g.S.Sink.fresh l.initial.sink)
     × (g.S.Sink.capacity l.sink ≡ g.S.Sink.capacity l.initial.sink)
