@@ -1,7 +1,6 @@
 -- What a row sink shows: of any pieces, the wanted row of their bytes joined.
-use Rattle.std.proofs.Common.{◌≡◌, ℕ, zero, suc, ◌+◌, ◌<◌, ◌≤◌, Bool, true, false, cond, eqb, ltb, List, [], ◌∷◌, ◌++◌, length, take, set, sym, refl, ap, ◌∙◌, ⊎_elim, append_assoc, append-nil, arith, length-append, length-take-le, take_all, take_at, le-ltb, lt-ltb, eq-eqb, ne_eqb}
+use Rattle.std.proofs.Common.{◌≡◌, ℕ, zero, suc, ◌+◌, ◌<◌, ◌≤◌, Bool, true, false, cond, eqb, ltb, List, [], ◌∷◌, ◌++◌, length, take, sym, refl, ap, ◌∙◌, ⊎_elim, append_assoc, append-nil, arith, length-append, take_all, take_at, le-ltb, lt-ltb, eq-eqb, ne_eqb}
 use Rattle.std.proofs.lemmas.Bool.{cond-true, cond-false, cases_Bool, cases_lt}
-use Rattle.std.proofs.lemmas.List.{take_more_set}
 use Rattle.rules.specs.Limits.{row_width}
 use Rattle.rules.specs.Pieces.{Chunk, all_bytes, made}
 use Rattle.sink.specs.Rows.{RowValue, row, shown_row, before_newline, fresh_row, shows, shows_all, row_rule}
@@ -35,13 +34,6 @@ module _ (w n : ℕ) (xs : List ℕ) (b : ℕ) where
   pub shows_byte : eqb b 10 ≡ false → n ≡ w → length xs < row_width → shows (at_row w n xs) b ≡ at_row w n (xs ++ b ∷ [])
   shows_byte e i l =
       cond-false (eqb b 10) _ _ e ∙ cond-true (eqb n w) _ _ (eq-eqb n w i) ∙ cond-true (ltb (length xs) row_width) _ _ (lt-ltb (length xs) row_width l)
-
--- A row that holds len of its bytes takes one more.
-pub shows_stored : (w n len b : ℕ) (bs : List ℕ) → (b ≡ 10 → ⊥) → n ≡ w → len < row_width → length bs ≡ row_width →
-    at_row w n (take (len + 1) (set bs len b)) ≡ shows (at_row w n (take len bs)) b
-shows_stored w n len b bs e i l m =
-    let k : length (take len bs) ≡ len = length-take-le len bs (omega arith) in
-    ap (at_row w n) (take_more_set bs len b (omega arith)) ∙ sym (shows_byte w n (take len bs) b (ne_eqb b 10 e) i (omega (arith, k)))
 
 pub shows_wanted : (v : RowValue) (b : ℕ) → (shows v b).wanted ≡ v.wanted
 shows_wanted v b = three (eqb b 10) (eqb v.newlines v.wanted) (ltb (length v.bytes) row_width)

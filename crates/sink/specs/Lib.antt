@@ -4,3 +4,4 @@ pub mod PageState
 pub mod Rows
 pub mod RowState
 pub mod Tallies
+pub mod Sinks

@@ -29,6 +29,7 @@ impl<'a> Piece<'a> {
     pub fn new(kind: Kind, bytes: &'a [u8]) -> Piece<'a>
         ensures { chunk result ≡ chunk_of kind bytes.now }
     {
+        // Stays: (a) a piece is an enum of the six kinds, each with its borrowed bytes, so each kind names its case.
         match kind {
             Kind::Common => Piece::Common(bytes),
             Kind::Ours => Piece::Ours(bytes),
@@ -42,6 +43,7 @@ impl<'a> Piece<'a> {
     pub fn kind(self) -> Kind
         ensures { kind_of result ≡ (chunk self.entry).kind }
     {
+        // Stays: (a) the same, from case to kind.
         match self {
             Piece::Common(_) => Kind::Common,
             Piece::Ours(_) => Kind::Ours,

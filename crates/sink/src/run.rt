@@ -1,7 +1,8 @@
-ghost use Rattle.std.specs.Prelude.{◌≡◌, ℕ, ◌+◌, ◌<◌, ◌≤◌, true, take as first, is_ok, is_err};
+ghost use Rattle.std.specs.Prelude.{◌≡◌, ◌+◌, true, take as first, is_ok, is_err};
 ghost use Rattle.rules.specs.Pieces.{made, total};
 ghost use Rattle.sink.specs.Pieces.{chunks};
 ghost use Rattle.sink.specs.Answers.{counted, fitting, write_answer};
+ghost use Rattle.sink.specs.Sinks.{LeavesAlone};
 
 use crate::piece::Piece;
 use crate::refusal::{TooLong, Unwritten};
@@ -14,9 +15,7 @@ pub fn take_all<S: Sink>(sink: &mut S, pieces: &[Piece<'_>]) -> usize
     ensures value { S.Sink.value sink.new ≡ made S.Sink.rule (S.Sink.value sink.old) (first result (chunks pieces.now)) }
     ensures taken { S.Sink.taken sink.new ≡ S.Sink.taken sink.old + total (first result (chunks pieces.now)) }
     ensures announced { S.Sink.announced sink.new ≡ S.Sink.announced sink.old }
-    ensures fresh { S.Sink.fresh sink.new ≡ S.Sink.fresh sink.old }
-    ensures capacity { S.Sink.capacity sink.new ≡ S.Sink.capacity sink.old }
-    ensures rest { (k : ℕ) → S.Sink.taken sink.new ≤ k → S.Sink.rest sink.new k ≡ S.Sink.rest sink.old k }
+    ensures alone { LeavesAlone S.Sink sink.old sink.new }
     ensures untouched { result ≡ 0 → sink.new ≡ sink.old }
 {
     for (n, p) in pieces.iter().enumerate() {
@@ -45,9 +44,7 @@ pub fn write_all<S: Sink>(sink: &mut S, pieces: &[Piece<'_>]) -> Result<(), Unwr
     ensures value { is_ok result ≡ true → S.Sink.value sink.new ≡ made S.Sink.rule (S.Sink.fresh sink.old) (chunks pieces.now) }
     ensures taken { is_ok result ≡ true → S.Sink.taken sink.new ≡ total (chunks pieces.now) }
     ensures announced { is_ok result ≡ true → S.Sink.announced sink.new ≡ total (chunks pieces.now) }
-    ensures fresh { S.Sink.fresh sink.new ≡ S.Sink.fresh sink.old }
-    ensures capacity { S.Sink.capacity sink.new ≡ S.Sink.capacity sink.old }
-    ensures rest { (k : ℕ) → S.Sink.taken sink.new ≤ k → S.Sink.rest sink.new k ≡ S.Sink.rest sink.old k }
+    ensures alone { LeavesAlone S.Sink sink.old sink.new }
     ensures refused { is_err result ≡ true → sink.new ≡ sink.old }
 {
     let needed = length_of(pieces).ok_or(Unwritten::Uncountable)?;

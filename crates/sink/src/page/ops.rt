@@ -1,7 +1,4 @@
-ghost use Rattle.std.specs.Prelude.{◌≡◌, ℕ, ◌+◌, ◌<◌, ◌≤◌, List, [], length};
-ghost use Rattle.rules.specs.Pieces.{Chunk, size};
-ghost use Rattle.sink.specs.Pieces.{chunk};
-ghost use Rattle.sink.specs.Answers.{begin_answer, take_answer};
+ghost use Rattle.std.specs.Prelude.{ℕ, List, [], length};
 ghost use Rattle.sink.specs.PageState.{page_value, page_rule, page_rest};
 
 use crate::page::Page;

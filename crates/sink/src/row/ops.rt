@@ -1,8 +1,5 @@
-ghost use Rattle.std.specs.Prelude.{◌≡◌, ℕ, ◌+◌, ◌<◌, ◌≤◌, List};
+ghost use Rattle.std.specs.Prelude.{◌≡◌, ◌+◌, ◌<◌, ◌≤◌};
 ghost use Rattle.rules.specs.Limits.{row_capacity};
-ghost use Rattle.rules.specs.Pieces.{Chunk, size};
-ghost use Rattle.sink.specs.Pieces.{chunk};
-ghost use Rattle.sink.specs.Answers.{begin_answer, take_answer};
 ghost use Rattle.sink.specs.Rows.{RowValue, fresh_row, row_rule, shows};
 ghost use Rattle.sink.specs.RowState.{row_value};
 

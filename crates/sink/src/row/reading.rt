@@ -1,7 +1,8 @@
 ghost use Rattle.std.specs.Prelude.{◌≡◌, List};
-ghost use Rattle.rules.specs.Pieces.{Chunk, all_bytes, made};
+ghost use Rattle.rules.specs.Pieces.{Chunk, all_bytes};
 ghost use Rattle.sink.specs.Rows.{fresh_row, shown_row};
 ghost use Rattle.sink.specs.RowState.{row_value};
+ghost use Rattle.sink.specs.Sinks.{Empty, MadeOf};
 ghost use Rattle.sink.specs.contracts.row.ops.RowSink.TheImpl.{ghosts as meaning};
 
 use crate::meter::Meter;
@@ -12,8 +13,7 @@ impl Row {
     /// A sink for row `wanted`, counted from 0, as after begin with 0.
     pub fn new(wanted: u32) -> Row
         ensures row { row_value result ≡ fresh_row wanted }
-        ensures value { meaning.value result ≡ meaning.fresh result }
-        ensures empty { (meaning.announced result ≡ 0) × (meaning.taken result ≡ 0) }
+        ensures empty { Empty meaning result }
     {
         Row {
             wanted,
@@ -26,7 +26,7 @@ impl Row {
     /// The row's first bytes: those of the pieces' bytes joined, whatever pieces made the row's value as a sink.
     pub fn shown(&self) -> &[u8]
         ensures bytes { result.now ≡ (row_value self.now).bytes }
-        ensures row { (cs : List Chunk) → meaning.value self.now ≡ made meaning.rule (meaning.fresh self.now) cs → result.now ≡ shown_row self.now.wanted (all_bytes cs) }
+        ensures row { (cs : List Chunk) → MadeOf meaning self.now cs → result.now ≡ shown_row self.now.wanted (all_bytes cs) }
     {
         self.bytes.as_slice()
     }

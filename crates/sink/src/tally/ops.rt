@@ -1,7 +1,5 @@
-ghost use Rattle.std.specs.Prelude.{◌≡◌, ℕ, ◌+◌, ◌<◌, ◌≤◌};
-ghost use Rattle.rules.specs.Pieces.{Chunk, size};
-ghost use Rattle.sink.specs.Answers.{largest, begin_answer, take_answer};
-ghost use Rattle.sink.specs.Pieces.{chunk};
+ghost use Rattle.std.specs.Prelude.{ℕ};
+ghost use Rattle.sink.specs.Answers.{largest};
 ghost use Rattle.sink.specs.Tallies.{tally_rule};
 
 use crate::piece::Piece;

@@ -1,5 +1,6 @@
 ghost use Rattle.std.specs.Prelude.{◌≡◌, List};
-ghost use Rattle.rules.specs.Pieces.{Chunk, made, total};
+ghost use Rattle.rules.specs.Pieces.{Chunk, total};
+ghost use Rattle.sink.specs.Sinks.{Empty, MadeOf};
 ghost use Rattle.sink.specs.contracts.tally.ops.TallySink.TheImpl.{ghosts as meaning};
 
 use crate::meter::Meter;
@@ -8,8 +9,7 @@ use crate::tally::Tally;
 impl Tally {
     /// A tally, as after begin with 0.
     pub fn new() -> Tally
-        ensures empty { (result.meter.announced ≡ 0) × (result.meter.taken ≡ 0) }
-        ensures value { (meaning.value result ≡ meaning.fresh result) × (meaning.announced result ≡ 0) × (meaning.taken result ≡ 0) }
+        ensures { Empty meaning result }
     {
         Tally {
             meter: Meter::new(),
@@ -19,7 +19,7 @@ impl Tally {
     /// How many bytes it took: the length of the pieces together, whatever pieces made the tally's value as a sink.
     pub fn count(&self) -> usize
         ensures count { result ≡ self.now.meter.taken }
-        ensures total { (cs : List Chunk) → meaning.value self.now ≡ made meaning.rule (meaning.fresh self.now) cs → result ≡ total cs }
+        ensures total { (cs : List Chunk) → MadeOf meaning self.now cs → result ≡ total cs }
     {
         self.meter.taken()
     }

@@ -1,33 +1,17 @@
-use Rattle.std.proofs.Common.{◌≡◌, ℕ, ◌+◌, length, take, sym, refl, ap, ◌∙◌, arith}
-use Rattle.rules.specs.Pieces.{made, total}
+use Rattle.std.proofs.Common.{◌≡◌, ℕ, length, sym, ap, ◌∙◌, arith}
 use Rattle.sink.specs.Answers.{fitting}
 use Rattle.sink.specs.Pieces.{chunks}
-use Rattle.sink.proofs.Given.{gone_none, gone_more, gone_stop, gone_all, chunks_at, length_chunks}
+use Rattle.sink.proofs.Given.{gone_more, gone_stop, gone_all, chunks_at, length_chunks}
 use Rattle.sink.proofs.Told.{took, not_took}
 use Rattle.sink.proofs.run.take_all.Goals as goal
 
-pub loop-n-init : goal.loop-n-init
-loop-n-init g c = (gone_none g.S.Sink.rule (g.S.Sink.value c.args.sink.now) (g.S.Sink.taken c.args.sink.now) (g.S.Sink.announced c.args.sink.now) (chunks c.args.pieces.now), refl, refl, refl, λ k h. refl, λ h. refl)
-
-pub returns-then-is_err : goal.returns-then-is_err
-returns-then-is_err g c =
-    let e = c.take.ensures in
+pub returns-then-is_err-clause-answer : goal.returns-then-is_err-clause-answer
+returns-then-is_err-clause-answer g c =
     let i = c.loop-n.invariant in
     let n = length_chunks c.args.pieces.now in
-    let less = not_took _ _ _ c.take.result e.answer (sym c.if-is_err.ensures.value) in
-    let same = e.refused less in
-    let t : g.S.Sink.taken c.take.new.self ≡ g.S.Sink.taken c.loop-n.sink = ap g.S.Sink.taken same in
+    let less = not_took _ _ _ c.take.result c.take.ensures.answer (sym c.if-is_err.ensures.value) in
     let stop = gone_stop g.S.Sink.rule _ _ _ _ (g.S.Sink.announced c.loop-n.sink) (chunks c.args.pieces.now) c.loop-n.n _ i.0 (omega (arith, n, c.loop-n-test.true)) (sym (chunks_at c.args.pieces.now c.loop-n.n _ c.loop-n-test.true)) less in
-    record {
-      answer = stop ∙ ap (λ (a : ℕ). fitting (g.S.Sink.taken c.args.sink.now) a (chunks c.args.pieces.now)) i.1;
-      value = ap g.S.Sink.value same ∙ i.0.value;
-      taken = t ∙ i.0.taken;
-      announced = e.announced ∙ i.1;
-      fresh = e.fresh ∙ i.2;
-      capacity = e.capacity ∙ i.3;
-      rest = λ k h. e.rest k h ∙ i.4 k (omega (arith, t, h));
-      untouched = λ h. same ∙ i.5 h;
-    }
+    stop ∙ ap (λ (a : ℕ). fitting (g.S.Sink.taken c.args.sink.now) a (chunks c.args.pieces.now)) i.1
 
 pub loop-n-preserved : goal.loop-n-preserved
 loop-n-preserved g c =
@@ -38,25 +22,18 @@ loop-n-preserved g c =
     let more = gone_more g.S.Sink.rule _ _ (g.S.Sink.value c.take.new.self) _ _ (g.S.Sink.taken c.take.new.self) (g.S.Sink.announced c.loop-n.sink) (chunks c.args.pieces.now) c.loop-n.n _ i.0 (omega (arith, n, c.loop-n-test.true)) (sym (chunks_at c.args.pieces.now c.loop-n.n _ c.loop-n-test.true)) fits (e.value fits) (e.taken fits) in (
       rw e.announced more,
       e.announced ∙ i.1,
-      e.fresh ∙ i.2,
-      e.capacity ∙ i.3,
-      λ k h. e.rest k h ∙ i.4 k (omega (arith, e.taken fits, h)),
+      record {
+        fresh = e.fresh ∙ i.2.fresh;
+        capacity = e.capacity ∙ i.2.capacity;
+        rest = λ k h. e.rest k h ∙ i.2.rest k (omega (arith, e.taken fits, h));
+      },
       λ h. absurd (omega (arith, h)),
     )
 
-pub returns : goal.returns
-returns g c =
+pub returns-clause-answer : goal.returns-clause-answer
+returns-clause-answer g c =
     let i = c.loop-n.invariant in
     let n = length_chunks c.args.pieces.now in
     let all = gone_all g.S.Sink.rule _ _ _ _ (g.S.Sink.announced c.loop-n.sink) (chunks c.args.pieces.now) c.loop-n.n i.0 (omega (arith, n, c.loop-n-test.false)) in
     let whole : c.loop-n.n ≡ length c.args.pieces.now = omega (arith, c.loop-n.auto.n-end, c.loop-n-test.false) in
-    record {
-      answer = sym whole ∙ all ∙ ap (λ (a : ℕ). fitting (g.S.Sink.taken c.args.sink.now) a (chunks c.args.pieces.now)) i.1;
-      value = i.0.value ∙ ap (λ (k : ℕ). made g.S.Sink.rule (g.S.Sink.value c.args.sink.now) (take k (chunks c.args.pieces.now))) whole;
-      taken = i.0.taken ∙ ap (λ (k : ℕ). g.S.Sink.taken c.args.sink.now + total (take k (chunks c.args.pieces.now))) whole;
-      announced = i.1;
-      fresh = i.2;
-      capacity = i.3;
-      rest = i.4;
-      untouched = λ h. i.5 (whole ∙ h);
-    }
+    sym whole ∙ all ∙ ap (λ (a : ℕ). fitting (g.S.Sink.taken c.args.sink.now) a (chunks c.args.pieces.now)) i.1

@@ -19,8 +19,6 @@ returns g c =
       value = λ _. e.value ∙ ap (λ (x : List Chunk). made g.S.Sink.rule (g.S.Sink.value c.begin.new.self) x) w ∙ ap (λ (v : g.S.Sink.Value). made g.S.Sink.rule v cs) (b.value fits);
       taken = λ _. e.taken ∙ ap (λ (x : List Chunk). g.S.Sink.taken c.begin.new.self + total x) w ∙ omega (arith, b.taken fits);
       announced = search rules;
-      fresh = search rules;
-      capacity = search rules;
-      rest = search rules;
+      alone = search rules;
       refused = search rules;
     }
