@@ -17,6 +17,7 @@ use Rattle.rules.proofs.Kept.{currents_walk, others_walk}
 use Rattle.rules.proofs.Woven.{Sided, Run, runs, any_true}
 use Rattle.groups.specs.declared.next.NextCluster.{NextCluster}
 use Rattle.groups.specs.Taking.{KeptHunks, one_of, facing_of, Taken}
+use Rattle.groups.proofs.Growing.{taken_is}
 use Rattle.groups.proofs.Starting.{lone}
 use Rattle.groups.specs.Telling.{told, first_told, Next}
 
@@ -121,27 +122,27 @@ module _ (cs os : List Hunk) (kept : KeptHunks cs os) (first : Hunk) (lead : sli
       let b = ap length t.theirs ∙ length-take-le n os t.their_bound in
       one_member k (omega arith)
 
-  -- So the first hunk's touching tells a group from a lone hunk.
-  pub record Grouped (p : ℕ × ℕ) (b : Bool) : Type 0 where
-    pub takes : Taken cs os p.0 p.1
-    pub group : is_group takes.cluster ≡ b
-
-  pub by_touching : (p q : ℕ × ℕ) (b : Bool) → p ≡ q → Taken cs os q.0 q.1 → b ≡ touches_any first (facing_of first.side cs os) → b ≡ true → Grouped p b
-  by_touching p q b e t f y = subst (λ (x : ℕ × ℕ). Grouped x b) (sym e) (record { takes = t; group = touching_group q.0 q.1 t (sym f ∙ y) ∙ sym y })
-
-  pub by_itself : (p q : ℕ × ℕ) (b : Bool) → p ≡ q → q ≡ one_of first.side → b ≡ touches_any first (facing_of first.side cs os) → b ≡ false → Grouped p b
-  by_itself p q b e s f y =
-      let t = lone cs os first (our_run cs os kept) (their_run cs os kept) lead (sym f ∙ y) in
-      subst (λ (x : ℕ × ℕ). Grouped x b) (sym (e ∙ s)) (record { takes = t; group = lone_group (one_of first.side).0 (one_of first.side).1 t (one first.side t.some) ∙ sym y })
+  -- So the first hunk's touching tells a group from a lone hunk, which is taken alone.
+  told_group : (m n : ℕ) (t : Taken cs os m n) → is_group t.cluster ≡ touches_any first (facing_of first.side cs os)
+  told_group m n t =
+      ⊎_elim
+      (λ (y : touches_any first (facing_of first.side cs os) ≡ true). touching_group m n t y ∙ sym y)
+      (λ (y : touches_any first (facing_of first.side cs os) ≡ false).
+      let o = lone cs os first (our_run cs os kept) (their_run cs os kept) lead y in
+      let e : ◌≡◌ {A = ℕ × ℕ} (m, n) ((one_of first.side).0, (one_of first.side).1) = taken_is cs os m n t ∙ sym (taken_is cs os _ _ o) in
+      let p = ap (λ (x : ℕ × ℕ). x.0) e in
+      let q = ap (λ (x : ℕ × ℕ). x.1) e in
+      lone_group m n t (omega (arith, one first.side o.some)) ∙ sym y)
+      (cases_Bool (touches_any first (facing_of first.side cs os)))
     where
       one : (s : Side) → 0 < (one_of s).0 + (one_of s).1 → (one_of s).0 + (one_of s).1 ≡ 1
       one Current p = refl
       one Other p = refl
       one Ancestor p = absurd (omega arith)
 
-  pub next_is : (m n end : ℕ) (b : Bool) (t : Taken cs os m n) → is_group t.cluster ≡ b → end ≡ max (last_end (take m cs)) (last_end (take n os))
+  pub next_is : (m n end : ℕ) (b : Bool) → Taken cs os m n → b ≡ touches_any first (facing_of first.side cs os) → end ≡ max (last_end (take m cs)) (last_end (take n os))
       → Next cs os (record { current = m; other = n; range = record { start = first.before.start; end = end }; is_group = b; lead = first.side })
-  next_is m n end b t g e = record { takes = t; tells = same t.cluster a c f r g }
+  next_is m n end b t g e = record { takes = t; tells = same t.cluster a c f r (told_group m n t ∙ sym g) }
     where
       a : length (currents (members t.cluster)) ≡ m
       a = ap length t.ours ∙ length-take-le m cs t.our_bound

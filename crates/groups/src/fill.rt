@@ -32,6 +32,7 @@ pub fn fill_ancestor(hunks: &[Hunk], range: Span, list: &mut HunkList<MAX_FILLED
     ensures { held list.new ≡ filled range.start range.end hunks.now }
 {
     list.truncate(0);
+    // Stays: with pairs of neighbours in place of `at`, the first and the last stretch would be cases of their own.
     let mut at = range.start;
     for hunk in hunks {
         push_stretch(list, at, hunk.before.start);

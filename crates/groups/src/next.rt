@@ -7,11 +7,13 @@ ghost use Rattle.rules.specs.Walk.{walk};
 ghost use Rattle.std.specs.Prelude.{◌≡◌, Some};
 ghost use Rattle.std.specs.List.{slice_get};
 
-use crate::take::{one_of, take_intersecting};
+use crate::ahead::Ahead;
+use crate::take::take_intersecting;
 use crate::touch::{last_end, touches_any};
 use rules::hunk::{Hunk, Side, Span};
 
 /// A group of the walk, or a lone hunk.
+// Stays: a flag and no enum, since each other field says the same of a lone hunk and of a group.
 #[derive(Clone, Copy)]
 pub struct NextCluster {
     /// How many hunks of the current side it takes.
@@ -26,51 +28,23 @@ pub struct NextCluster {
     pub lead: Side,
 }
 
-// The first hunk of the walk, or nothing where neither side has one.
-fn first_hunk(current: &[Hunk], other: &[Hunk]) -> Option<Hunk>
-    ensures { result ≡ slice_get (walk current.now other.now) 0 }
+// Stays: `KeptHunks` is asked of three functions; it names sheets, and "antt found no proof that this ghost field's type is a proposition".
+// The cluster that the first hunk of the walk begins: a group if it touches a hunk of the facing side, and else a lone hunk.
+fn cluster_of(ahead: Ahead<'_>) -> NextCluster
+    requires { KeptHunks ahead.current.now ahead.other.now }
+    ensures { Next ahead.entry.current.now ahead.entry.other.now result }
 {
-    match (current, other) {
-        ([], []) => None,
-        ([ours, ..], [theirs, ..]) if ours.before.start <= theirs.before.start => Some(*ours),
-        (_, [theirs, ..]) => Some(*theirs),
-        ([ours, ..], []) => Some(*ours),
-    }
-}
-
-// Whether the first hunk of the walk touches a hunk of the opposite side: otherwise it is lone.
-fn begins_group(first: Hunk, current: &[Hunk], other: &[Hunk]) -> bool
-    ensures { result ≡ touches_any first (facing_of first.side current.now other.now) }
-{
-    match first.side {
-        Side::Current => touches_any(first, other),
-        Side::Other => touches_any(first, current),
-        Side::Ancestor => false,
-    }
-}
-
-// The cluster that the first hunk of the walk begins.
-fn cluster_of(first: Hunk, current: &[Hunk], other: &[Hunk]) -> NextCluster
-    requires kept { KeptHunks current.now other.now }
-    requires leads { slice_get (walk current.now other.now) 0 ≡ Some first }
-    ensures { Next current.now other.now result }
-{
-    let is_group = begins_group(first, current, other);
-    let (m, n) = if is_group {
-        take_intersecting(current, other, first)
-    } else {
-        one_of(first.side)
-    };
-    let end = last_end(&current[..m]).max(last_end(&other[..n]));
+    let (m, n) = take_intersecting(ahead);
+    let end = last_end(&ahead.current[..m]).max(last_end(&ahead.other[..n]));
     NextCluster {
         current: m,
         other: n,
         range: Span {
-            start: first.before.start,
+            start: ahead.first.before.start,
             end,
         },
-        is_group,
-        lead: first.side,
+        is_group: touches_any(ahead.first, ahead.facing()),
+        lead: ahead.first.side,
     }
 }
 
@@ -80,5 +54,5 @@ pub fn next_cluster(current: &[Hunk], other: &[Hunk]) -> Option<NextCluster>
     ensures answer { result ≡ first_told (clusters (walk current.now other.now)) }
     ensures rest { Rest current.now other.now result }
 {
-    first_hunk(current, other).map(|first| cluster_of(first, current, other))
+    Ahead::of(current, other).map(cluster_of)
 }

@@ -6,6 +6,7 @@ ghost use Rattle.rules.specs.Tables.{last_of};
 ghost use Rattle.rules.specs.Walk.{walk};
 ghost use Rattle.std.specs.List.{slice_get};
 
+use crate::ahead::Ahead;
 use crate::touch::touch;
 use rules::hunk::{Hunk, Side};
 
@@ -19,8 +20,8 @@ fn is_offered(left: &[Hunk], taken: &[Hunk]) -> bool
     }
 }
 
-/// A single hunk of a side, as numbers of current and other hunks.
-pub(crate) fn one_of(side: Side) -> (usize, usize)
+// A single hunk of a side, as numbers of current and other hunks.
+fn one_of(side: Side) -> (usize, usize)
     ensures { result ≡ one_of side }
 {
     match side {
@@ -30,15 +31,20 @@ pub(crate) fn one_of(side: Side) -> (usize, usize)
     }
 }
 
-/// The group that the first hunk of the walk begins: how many hunks it takes of the current side and of the other.
+/// The cluster that the first hunk of the walk begins: how many hunks it takes of the current side and of the other.
 ///
-/// Once no further hunk of either side touches the last one taken of the facing side, the group is complete.
-pub fn take_intersecting(current: &[Hunk], other: &[Hunk], first: Hunk) -> (usize, usize)
-    requires kept { KeptHunks current.now other.now }
-    requires leads { slice_get (walk current.now other.now) 0 ≡ Some first }
-    ensures numbers { result ≡ taken (clusters (walk current.now other.now)) }
-    ensures rest { Taken current.now other.now result.0 result.1 }
+/// Once no further hunk of either side touches the last one taken of the facing side, the cluster is complete.
+pub fn take_intersecting(ahead: Ahead<'_>) -> (usize, usize)
+    requires { KeptHunks ahead.current.now ahead.other.now }
+    ensures numbers { result ≡ taken (clusters (walk ahead.entry.current.now ahead.entry.other.now)) }
+    ensures rest { Taken ahead.entry.current.now ahead.entry.other.now result.0 result.1 }
 {
+    let Ahead {
+        current,
+        other,
+        first,
+    } = ahead;
+    // Stays: the project fixes two nested loops here, each left by its label.
     let (mut i, mut j) = one_of(first.side);
     'group: loop {
         while is_offered(&other[j..], &current[..i]) {

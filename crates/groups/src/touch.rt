@@ -25,6 +25,7 @@ pub(crate) fn touch(a: Hunk, b: Hunk) -> bool
 pub(crate) fn touches_any(hunk: Hunk, others: &[Hunk]) -> bool
     ensures { result ≡ touches_any hunk others.now }
 {
+    // Stays: the project fixes a `for` over the opposite hunks here, without an index.
     for other in others {
         if touch(hunk, *other) {
             return true;

@@ -1,8 +1,9 @@
 -- Numbers of lines.
-use Rattle.std.proofs.Common.{◌≡◌, ℕ, suc, ◌+◌, ◌<◌, ◌≤◌, Bool, true, false, cond, not, ◌&&◌, ◌||◌, eqb, ltb, List, [], ◌∷◌, ◌++◌, length, sym, refl, ap, ◌∙◌, ap₂, ⊎_elim, arith, length-append}
+use Rattle.std.proofs.Common.{◌≡◌, ℕ, suc, ◌+◌, ◌<◌, ◌≤◌, Bool, true, false, cond, not, ◌&&◌, ◌||◌, eqb, ltb, List, [], ◌∷◌, ◌++◌, length, sym, refl, ap, ◌∙◌, ap₂, arith, length-append}
 use Rattle.std.specs.List.{AllByRecursion}
 use Rattle.std.proofs.lemmas.List.Sums.{sum_by-cons}
-use Rattle.std.proofs.lemmas.Bool.{eq-eqb, ne_eqb, cases_eq, and_left, or_left, lt-ltb}
+use Rattle.std.proofs.Math.Dec.{eqb-suc-suc}
+use Rattle.std.proofs.lemmas.Bool.{eq-eqb, ne_eqb, and_left, or_left, lt-ltb}
 use Rattle.rules.specs.declared.hunk.Hunk.{Hunk}
 use Rattle.rules.specs.Contraction.{hunk_size}
 use Rattle.rules.specs.Hunks.{Sheets, side_lines, hunk_lines}
@@ -26,11 +27,8 @@ few_counted s f hs r le =
     omega arith
 
 -- two lists are the same where all lines of both are shared
-eqb_suc : (n p : ℕ) → eqb (suc n) (suc p) ≡ eqb n p
-eqb_suc n p = ⊎_elim (λ e. eq-eqb (suc n) (suc p) (ap suc e) ∙ sym (eq-eqb n p e)) (λ e. ne_eqb (suc n) (suc p) (λ z. e (omega arith)) ∙ sym (ne_eqb n p e)) (cases_eq n p)
-
 same_step : (b : Bool) (n p q : ℕ) (r : Bool) → r ≡ (eqb n p && eqb n q) → (b && r) ≡ (eqb (cond b (suc n) 0) (suc p) && eqb (cond b (suc n) 0) (suc q))
-same_step true n p q r e = e ∙ sym (ap₂ ◌&&◌ (eqb_suc n p) (eqb_suc n q))
+same_step true n p q r e = e ∙ sym (ap₂ ◌&&◌ (eqb-suc-suc n p) (eqb-suc-suc n q))
 same_step false n p q r e = sym (and_left (eqb 0 (suc p)) (eqb 0 (suc q)) (ne_eqb 0 (suc p) (λ z. omega arith)))
 
 pub same_shared : (xs ys : List Line) → same_lines xs ys ≡ (eqb (shared_front xs ys) (length xs) && eqb (shared_front xs ys) (length ys))

@@ -1,5 +1,4 @@
 pub mod Reading
 pub mod Backs
 pub mod Counting
-pub mod Detecting
 pub mod Cursors

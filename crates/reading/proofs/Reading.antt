@@ -1,9 +1,9 @@
 -- Lines of a sheet, of a hunk, and of a list of hunks.
-use Rattle.std.proofs.Common.{◌≡◌, ℕ, zero, suc, ◌+◌, ◌-◌, ◌*◌, ◌<◌, ◌≤◌, List, [], ◌∷◌, length, get_or, drop, Some, None, Option, refl, ap, ◌∙◌, arith, length-append, length-drop}
+use Rattle.std.proofs.Common.{◌≡◌, ℕ, zero, suc, ◌-◌, ◌*◌, ◌≤◌, List, [], ◌∷◌, length, get_or, drop, Some, None, Option, refl, ap, ◌∙◌, arith, length-append, length-drop}
 use Rattle.std.specs.Borrow.{Bor}
 use Rattle.std.specs.List.{AllByRecursion}
 use Rattle.std.specs.Option.{option_map, unwrap_or}
-use Rattle.std.proofs.lemmas.List.{length-take-le, get_or-take, get_or-drop}
+use Rattle.std.proofs.lemmas.List.{length-take-le}
 use Rattle.rules.specs.declared.hunk.Side.{Side}
 use Rattle.rules.specs.declared.hunk.Side.TheVariants.{Current, Other, Ancestor}
 use Rattle.rules.specs.declared.hunk.Hunk.{Hunk}
@@ -34,13 +34,6 @@ whole s h r =
     let a = (read_range h.side h).start in
     let b = (read_range h.side h).end in
     ap length (lines_are h.side s h) ∙ length-take-le (b - a) (drop a ls) (simp length-drop (omega arith))
-
-pub line_at : (s : Sheets) (h : Hunk) (k : ℕ) → k < hunk_size h → get_or (hunk_lines s h) k [] ≡ get_or (sheet_of s h.side) ((read_range h.side h).start + k) []
-line_at s h k lt =
-    let ls = sheet_of s h.side in
-    let a = (read_range h.side h).start in
-    let b = (read_range h.side h).end in
-    ap (λ (v : List Line). get_or v k []) (lines_are h.side s h) ∙ (get_or-take (b - a) (drop a ls) k [] lt ∙ get_or-drop a ls k [])
 
 pub few_of : (s : Sheets) → AllFormed s → (sd : Side) → length (sheet_of s sd) ≤ max_lines
 few_of s f Current = f.current.1

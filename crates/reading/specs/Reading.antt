@@ -1,5 +1,6 @@
 -- What is read of a list of hunks.
-use Rattle.std.specs.Prelude.{ℕ, Bool, false, ◌||◌, List, [], ◌∷◌, nat_lt, sum_by}
+use Rattle.std.specs.Prelude.{ℕ, Bool, List, nat_lt, sum_by}
+use Rattle.std.specs.List.{list_any}
 use Rattle.rules.specs.declared.hunk.Hunk.{Hunk}
 use Rattle.rules.specs.declared.hunk.Side.TheVariants.{Current}
 use Rattle.rules.specs.Contraction.{hunk_size}
@@ -10,8 +11,7 @@ line_count = sum_by hunk_size
 
 -- Whether a hunk of the list has lines.
 abbrev pub any_lines : List Hunk → Bool
-any_lines [] = false
-any_lines (h ∷ hs) = nat_lt 0 (hunk_size h) || any_lines hs
+any_lines = list_any (λ h. nat_lt 0 (hunk_size h))
 
 -- What stands for a hunk where there is none: it has no lines.
 abbrev pub no_hunk : Hunk

@@ -76,6 +76,7 @@ impl<'a, T: ThreeSheets> Iterator for Forward<'a, T> {
     }
 }
 
+// Stays: the two cursors mirror each other as `next` and `next_back` do; a trait for the end would have two methods and their laws.
 /// A cursor that goes back, from the last line on.
 #[derive(Drop)]
 pub(crate) struct Back<'a, T>(pub(crate) Lines<'a, T>);

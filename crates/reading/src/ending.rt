@@ -1,11 +1,11 @@
 ghost use Rattle.std.specs.Prelude.{◌≡◌, ℕ, ◌<◌};
 ghost use Rattle.rules.specs.Hunks.{sheet_of};
-ghost use Rattle.rules.specs.Endings.{by_second_last, ends_in_newline, ending_before, ending_of};
+ghost use Rattle.rules.specs.Endings.{by_second_last, ends_in_newline, ending_before, ending_of, no_lines};
 
 use crate::hunk::line_at;
 use crate::three::ThreeSheets;
 use rules::ending::Ending;
-use rules::hunk::{Hunk, Side};
+use rules::hunk::{Hunk, Side, Span};
 
 /// What the second-last byte of a line says, if there is one.
 fn by_second_last(line: &[u8]) -> Option<Ending>
@@ -22,10 +22,14 @@ fn by_second_last(line: &[u8]) -> Option<Ending>
 fn ends_in_newline(line: &[u8]) -> bool
     ensures { result ≡ ends_in_newline line.now }
 {
-    match line {
-        [.., last] => *last == b'\n',
-        _ => false,
-    }
+    matches!(line, [.., b'\n'])
+}
+
+/// Whether a range has no lines.
+fn is_empty(range: Span) -> bool
+    ensures { result ≡ no_lines range }
+{
+    (range.start..range.end).is_empty()
 }
 
 /// The ending shown at the end of a stretch of lines: where the last lacks the newline, the one ahead of it decides.
@@ -35,12 +39,9 @@ pub fn ending_before<T: ThreeSheets>(three: &T, side: Side, end: u32) -> Option<
 {
     let line = line_at(three, side, end - 1);
     if ends_in_newline(line) {
-        by_second_last(line)
-    } else if end >= 2 {
-        by_second_last(line_at(three, side, end - 2))
-    } else {
-        None
+        return by_second_last(line);
     }
+    by_second_last(line_at(three, side, end.checked_sub(2)?))
 }
 
 /// The line ending that a list of hunks shows, from its last hunk back: the first range that is not empty decides.
@@ -48,10 +49,10 @@ pub fn detect_line_ending<T: ThreeSheets>(three: &T, hunks: &[Hunk]) -> Option<E
     ensures { result ≡ ending_of (T.ThreeSheets.sheets three.now) hunks.now }
 {
     for hunk in hunks.iter().rev() {
-        if hunk.after.start < hunk.after.end {
+        if !is_empty(hunk.after) {
             return ending_before(three, hunk.side, hunk.after.end);
         }
-        if hunk.before.start < hunk.before.end {
+        if !is_empty(hunk.before) {
             return ending_before(three, Side::Ancestor, hunk.before.end);
         }
     }

@@ -52,6 +52,7 @@ pub fn count_lines(hunks: &[Hunk]) -> u32
 pub fn contains_lines(hunks: &[Hunk]) -> bool
     ensures { result ≡ any_lines hunks.now }
 {
+    // Stays: the project fixes a `for` over the hunks here, without an index.
     for hunk in hunks {
         if lines_of(*hunk) > 0 {
             return true;

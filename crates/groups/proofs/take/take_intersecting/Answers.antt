@@ -7,23 +7,23 @@ use Rattle.groups.proofs.take.take_intersecting.Goals as goal
 
 pub group-init : goal.group-init
 group-init c =
-    let cs = c.args.current.now in
-    let os = c.args.other.now in
-    let k = c.requires.kept in
+    let cs = c.args.ahead.current.now in
+    let os = c.args.ahead.other.now in
+    let k = c.requires in
     let e = c.one_of-i.ensures in
-    subst (λ p. Growing cs os p.0 p.1) (sym e) (started cs os c.args.first (our_run cs os k) (their_run cs os k) c.requires.leads)
+    subst (λ p. Growing cs os p.0 p.1) (sym e) (started cs os c.args.ahead.first (our_run cs os k) (their_run cs os k) c.args.ahead.leads)
 
 pub loop-j-smaller : goal.loop-j-smaller
 loop-j-smaller c =
     let g = c.loop-j.invariant.0 in
-    let o : c.loop-j.j < length c.args.other.now = offered_below c.args.other.now c.args.current.now c.loop-j.j c.group.i g.our_bound c.loop-j-test.ensures in
+    let o : c.loop-j.j < length c.args.ahead.other.now = offered_below c.args.ahead.other.now c.args.ahead.current.now c.loop-j.j c.group.i g.our_bound c.loop-j-test.ensures in
     omega arith
 
 pub loop-j-preserved : goal.loop-j-preserved
 loop-j-preserved c =
-    let cs = c.args.current.now in
-    let os = c.args.other.now in
-    let k = c.requires.kept in
+    let cs = c.args.ahead.current.now in
+    let os = c.args.ahead.other.now in
+    let k = c.requires in
     let g = c.loop-j.invariant.0 in
     let p = c.loop-j.invariant.1 in
     (grow_other cs os (our_run cs os k) (their_run cs os k) _ _ g c.loop-j-test.ensures, omega arith)
@@ -31,13 +31,13 @@ loop-j-preserved c =
 pub is_offered-requires-in-more-2 : goal.is_offered-requires-in-more-2
 is_offered-requires-in-more-2 c =
     let g = c.more.invariant.0 in
-    let o : c.more.i < length c.args.current.now = offered_below c.args.current.now c.args.other.now c.more.i c.loop-j.j g.their_bound c.if-not-is_offered.ensures in
+    let o : c.more.i < length c.args.ahead.current.now = offered_below c.args.ahead.current.now c.args.ahead.other.now c.more.i c.loop-j.j g.their_bound c.if-not-is_offered.ensures in
     omega arith
 
 pub group-smaller : goal.group-smaller
 group-smaller c =
     let g = c.more.invariant.0 in
-    let o : c.more.i < length c.args.current.now = offered_below c.args.current.now c.args.other.now c.more.i c.loop-j.j g.their_bound c.if-not-is_offered.ensures in
+    let o : c.more.i < length c.args.ahead.current.now = offered_below c.args.ahead.current.now c.args.ahead.other.now c.more.i c.loop-j.j g.their_bound c.if-not-is_offered.ensures in
     let p = c.more.invariant.1 in
     let q = c.loop-j.invariant.1 in
     let b = g.their_bound in
@@ -45,29 +45,29 @@ group-smaller c =
 
 pub group-preserved : goal.group-preserved
 group-preserved c =
-    let cs = c.args.current.now in
-    let os = c.args.other.now in
-    let k = c.requires.kept in
+    let cs = c.args.ahead.current.now in
+    let os = c.args.ahead.other.now in
+    let k = c.requires in
     grow_current cs os (our_run cs os k) (their_run cs os k) _ _ c.more.invariant.0 c.if-not-is_offered.ensures
 
 pub more-smaller : goal.more-smaller
 more-smaller c =
     let g = c.more.invariant.0 in
-    let o : c.more.i < length c.args.current.now = offered_below c.args.current.now c.args.other.now c.more.i c.loop-j.j g.their_bound c.if-not-is_offered.ensures in
+    let o : c.more.i < length c.args.ahead.current.now = offered_below c.args.ahead.current.now c.args.ahead.other.now c.more.i c.loop-j.j g.their_bound c.if-not-is_offered.ensures in
     omega arith
 
 pub more-preserved : goal.more-preserved
 more-preserved c =
-    let cs = c.args.current.now in
-    let os = c.args.other.now in
-    let k = c.requires.kept in
+    let cs = c.args.ahead.current.now in
+    let os = c.args.ahead.other.now in
+    let k = c.requires in
     let p = c.more.invariant.1 in
     (grow_current cs os (our_run cs os k) (their_run cs os k) _ _ c.more.invariant.0 c.if-not-is_offered.ensures, omega arith, c.if-is_offered.ensures)
 
 pub returns : goal.returns
 returns c =
-    let cs = c.args.current.now in
-    let os = c.args.other.now in
-    let k = c.requires.kept in
+    let cs = c.args.ahead.current.now in
+    let os = c.args.ahead.other.now in
+    let k = c.requires in
     let t = complete cs os (our_run cs os k) (their_run cs os k) _ _ c.more.invariant.0 c.more.invariant.2 c.if-not-is_offered.ensures in
     record { numbers = taken_is cs os _ _ t; rest = t }

@@ -1,27 +1,13 @@
-use Rattle.std.proofs.Common.{◌+◌, ◌<◌, ◌≤◌, ◌||◌, ltb, get_or, drop, sym, ap, ◌∙◌, arith}
-use Rattle.std.proofs.lemmas.List.{at_drop_more, at_drop_all}
-use Rattle.std.proofs.lemmas.Bool.{lt-ltb, le-ltb, or_left}
-use Rattle.rules.specs.Contraction.{hunk_size}
-use Rattle.reading.specs.Reading.{no_hunk, any_lines}
+use Rattle.std.proofs.Common.{◌≡◌, ℕ, ◌+◌, ◌<◌, Bool, false, List, length, get_or, take, ◌∙◌, ap₂, ◌||◌, rules}
+use Rattle.std.specs.List.{list_any}
+use Rattle.std.proofs.lemmas.List.Folds.{list_any_at, list_any_more}
 use Rattle.reading.proofs.hunk.contains_lines.Goals as goal
 
+none_more : {X : Type 0} (p : X → Bool) (xs : List X) (i : ℕ) (d : X) → i < length xs → list_any p (take i xs) ≡ false → p (get_or xs i d) ≡ false → list_any p (take (i + 1) xs) ≡ false
+none_more p xs i d lt before here = list_any_more p xs i d lt ∙ ap₂ ◌||◌ before here
+
 pub returns-then-lines_of-gt0 : goal.returns-then-lines_of-gt0
-returns-then-lines_of-gt0 c =
-    let hs = c.args.hunks.now in
-    let i = c.loop-hunk.hunk-index in
-    let lt : 0 < hunk_size (get_or hs i no_hunk) = omega (arith, c.lines_of.ensures) in
-    sym (c.loop-hunk.invariant
-    ∙ (at_drop_more any_lines hs i no_hunk c.loop-hunk-test.true
-    ∙ or_left (ltb 0 (hunk_size (get_or hs i no_hunk))) (any_lines (drop (i + 1) hs)) (lt-ltb 0 _ lt)))
+returns-then-lines_of-gt0 c = search (rules, list_any_at)
 
 pub loop-hunk-preserved : goal.loop-hunk-preserved
-loop-hunk-preserved c =
-    let hs = c.args.hunks.now in
-    let i = c.loop-hunk.hunk-index in
-    let le : hunk_size (get_or hs i no_hunk) ≤ 0 = omega (arith, c.lines_of.ensures) in
-    c.loop-hunk.invariant
-    ∙ (at_drop_more any_lines hs i no_hunk c.loop-hunk-test.true
-    ∙ ap (λ b. b || any_lines (drop (i + 1) hs)) (le-ltb 0 _ le))
-
-pub returns : goal.returns
-returns c = sym (c.loop-hunk.invariant ∙ at_drop_all any_lines c.args.hunks.now c.loop-hunk.hunk-index c.loop-hunk-test.false)
+loop-hunk-preserved c = search (rules, none_more)
