@@ -1,10 +1,9 @@
 -- Steps of the loops: what is left gives the answer.
-use Rattle.std.proofs.Common.{max, ◌≡◌, ℕ, suc, ◌+◌, ◌<◌, ◌≤◌, Bool, true, false, cond, eqb, List, [], ◌∷◌, length, take, drop, Some, None, sym, refl, ap, ◌∙◌, arith, length-drop, eq-eqb, eqb-true}
+use Rattle.std.proofs.Common.{max, ◌≡◌, ℕ, suc, ◌+◌, ◌<◌, ◌≤◌, true, false, cond, eqb, List, [], ◌∷◌, length, drop, Some, None, refl, arith, length-drop}
 use Rattle.std.proofs.lemmas.Bool.Decides.{nat_tests}
 use Rattle.std.specs.Prelude.{◌==◌, nat_lt, not, position}
 use Rattle.std.specs.List.{position_or_len}
 use Rattle.job.specs.Ends.{line_end, line_length}
-use Rattle.job.specs.Words.{after}
 
 -- the first newline ends the line, and where there is none the line goes on to the end
 line_by_newline : (t : List ℕ) → line_length t ≡ cond (nat_lt (position_or_len (λ b. b == 10) t) (length t)) (position_or_len (λ b. b == 10) t + 1) (length t)
@@ -35,21 +34,3 @@ line_forward t from to e h =
     let a = length_within (drop from t) in
     let b = length_some (drop from t) (omega arith) in
     (omega arith, omega arith)
-
--- what follows a word, by taking and dropping
-pub word_there : (w line : List ℕ) → take (length w) line ≡ w → after w line ≡ Some (drop (length w) line)
-word_there [] line e = refl
-word_there (w ∷ ws) [] e = absurd (let z : ◌≡◌ {A = ℕ} 0 1 = cc in omega arith)
-word_there (w ∷ ws) (b ∷ bs) e =
-    let p : w ≡ b = cc in
-    let q : take (length ws) bs ≡ ws = cc in
-    ap (λ v. cond v (after ws bs) None) (eq-eqb w b p) ∙ word_there ws bs q
-
-pub word_absent : (w line : List ℕ) → (take (length w) line ≡ w → ⊥) → after w line ≡ None
-word_absent [] line e = absurd (e refl)
-word_absent (w ∷ ws) [] e = refl
-word_absent (w ∷ ws) (b ∷ bs) e = by (eqb w b) refl (word_absent ws bs)
-  where
-    by : (v : Bool) → eqb w b ≡ v → ((take (length ws) bs ≡ ws → ⊥) → after ws bs ≡ None) → cond v (after ws bs) None ≡ None
-    by true g ih = let p = eqb-true w b g in ih (λ q. e (ap (λ c. c ∷ take (length ws) bs) (sym p) ∙ ap (λ cs. w ∷ cs) q))
-    by false g ih = refl

@@ -1,16 +1,15 @@
 -- What a line of a job asks for, how it is read and how it is spelled.
-use Rattle.std.specs.Prelude.{◌≡◌, ℕ, Bool, true, cond, List, [], ◌∷◌, ◌++◌, Some, None, codes, decimal, Option, ◌==◌}
+use Rattle.std.specs.Prelude.{◌≡◌, ℕ, Bool, true, cond, List, [], ◌∷◌, ◌++◌, Some, None, codes, decimal, Option, option_and_then, ◌==◌}
 use Rattle.std.specs.Option.{option_map, option_or}
 use Rattle.rules.specs.declared.hunk.Hunk.{Hunk}
 use Rattle.rules.specs.declared.hunk.Side.{Side}
 use Rattle.rules.specs.declared.hunk.Span.{Span}
-use Rattle.rules.specs.Lines.{same_line}
 use Rattle.job.specs.declared.command.SheetKind.{SheetKind}
-use Rattle.job.specs.declared.command.SheetKind.TheVariants.{Text, Cells}
 use Rattle.job.specs.declared.command.Command.{Command}
 use Rattle.job.specs.declared.command.Command.TheVariants.{Nothing, Sheet, Lines, Row, Open, OpenBy, Enter, Withdraw, Held, Help}
+use Rattle.job.specs.declared.command.Verb.{Verb}
 use Rattle.job.specs.Numbers.{Fits32, last_number, number_then}
-use Rattle.job.specs.Words.{after, and_then, front_side, kind_word, or_else, side_named, side_word}
+use Rattle.job.specs.Words.{and_then, front_named, front_side, kind_word, kinds, named, side_named, side_word, verb_word, verbs}
 
 pub data Order : Type 0 where
   nothing : Order
@@ -71,9 +70,7 @@ sheet_order side kind [] = None
 sheet_order side kind (b ∷ bs) = Some (sheet side kind (b ∷ bs))
 
 abbrev pub read_kind : Side → List ℕ → Option Order
-read_kind side line =
-    or_else (after (codes "text ") line) (sheet_order side Text)
-    (or_else (after (codes "cells ") line) (sheet_order side Cells) None)
+read_kind side line = and_then (front_named kind_word kinds line) (sheet_order side)
 
 abbrev pub read_sheet : List ℕ → Option Order
 read_sheet line = and_then (front_side line) read_kind
@@ -112,22 +109,30 @@ abbrev pub read_withdraw : List ℕ → Option Order
 read_withdraw line = option_map withdraw (side_named line)
 
 -- The orders that are a word alone, or no word.
+abbrev pub alone : Verb → Option Order
+alone Verb.Help = Some help
+alone Verb.Open = Some open_by_sheets
+alone Verb.Held = Some held
+alone v = None
+
+abbrev pub read_word : List ℕ → Option Order
+read_word line = option_and_then alone (named verb_word verbs line)
+
 abbrev pub read_alone : List ℕ → Option Order
-read_alone line =
-    cond (asks_nothing line) (Some nothing)
-    (cond (same_line line (codes "help")) (Some help)
-    (cond (same_line line (codes "open")) (Some open_by_sheets)
-    (cond (same_line line (codes "held")) (Some held) None)))
+read_alone line = cond (asks_nothing line) (Some nothing) (read_word line)
 
 -- The orders that go on behind their first word.
+abbrev pub worded : Verb → List ℕ → Option Order
+worded Verb.Lines rest = read_lines rest
+worded Verb.Sheet rest = read_sheet rest
+worded Verb.Row rest = read_row rest
+worded Verb.Open rest = read_open rest
+worded Verb.Enter rest = read_enter rest
+worded Verb.Withdraw rest = read_withdraw rest
+worded v rest = None
+
 abbrev pub read_worded : List ℕ → Option Order
-read_worded line =
-    or_else (after (codes "lines ") line) read_lines
-    (or_else (after (codes "sheet ") line) read_sheet
-    (or_else (after (codes "row ") line) read_row
-    (or_else (after (codes "open ") line) read_open
-    (or_else (after (codes "enter ") line) read_enter
-    (or_else (after (codes "withdraw ") line) read_withdraw None)))))
+read_worded line = and_then (front_named verb_word verbs line) worded
 
 -- What a line asks for, or nothing where it is not understood.
 abbrev pub order_of : List ℕ → Option Order

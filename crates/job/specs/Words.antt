@@ -1,13 +1,16 @@
 -- Words at the front of a line, the names of sides and kinds, and how one thing is read after another.
 use Rattle.std.specs.Prelude.{ℕ, cond, List, [], ◌∷◌, Some, None, codes, Option, ◌==◌}
 use Rattle.std.specs.Borrow.{Bor}
+use Rattle.std.specs.List.{find}
+use Rattle.std.specs.Str.{bytes_eq}
 use Rattle.rules.specs.declared.hunk.Side.{Side}
 use Rattle.rules.specs.declared.hunk.Side.TheVariants.{Current, Other, Ancestor}
-use Rattle.rules.specs.Lines.{same_line}
 use Rattle.job.specs.declared.command.SheetKind.{SheetKind}
 use Rattle.job.specs.declared.command.SheetKind.TheVariants.{Text, Cells}
+use Rattle.job.specs.declared.command.Verb.{Verb}
+use Rattle.job.specs.declared.command.Verb.TheVariants.{Lines, Sheet, Row, Open, Enter, Withdraw, Held, Help}
 
--- The names of sides and kinds.
+-- The names of sides and kinds, and the first words of commands.
 abbrev pub side_word : Side → List ℕ
 side_word Ancestor = codes "ancestor"
 side_word Current = codes "current"
@@ -16,6 +19,32 @@ side_word Other = codes "other"
 abbrev pub kind_word : SheetKind → List ℕ
 kind_word Text = codes "text"
 kind_word Cells = codes "cells"
+
+abbrev pub verb_word : Verb → List ℕ
+verb_word Lines = codes "lines"
+verb_word Sheet = codes "sheet"
+verb_word Row = codes "row"
+verb_word Open = codes "open"
+verb_word Enter = codes "enter"
+verb_word Withdraw = codes "withdraw"
+verb_word Held = codes "held"
+verb_word Help = codes "help"
+
+abbrev pub sides : List Side
+sides = Ancestor ∷ (Current ∷ (Other ∷ []))
+
+abbrev pub kinds : List SheetKind
+kinds = Text ∷ (Cells ∷ [])
+
+abbrev pub verbs : List Verb
+verbs = Lines ∷ (Sheet ∷ (Row ∷ (Open ∷ (Enter ∷ (Withdraw ∷ (Held ∷ (Help ∷ [])))))))
+
+-- Which of some things a whole word names.
+abbrev pub named : {X : Type 0} → (X → List ℕ) → List X → List ℕ → Option X
+named name all word = find (λ x. bytes_eq (name x) word) all
+
+abbrev pub side_named : List ℕ → Option Side
+side_named word = named side_word sides word
 
 -- What follows a word at the front of a line.
 abbrev pub after : List ℕ → List ℕ → Option (List ℕ)
@@ -42,19 +71,22 @@ with_rest (Some x) rest = Some (x, rest)
 abbrev pub told : {X : Type 0} → X × Bor (List ℕ) → X × List ℕ
 told p = (p.0, p.1.now)
 
--- The side that a whole word names.
-abbrev pub side_named : List ℕ → Option Side
-side_named word =
-    cond (same_line word (side_word Ancestor)) (Some Ancestor)
-    (cond (same_line word (side_word Current)) (Some Current)
-    (cond (same_line word (side_word Other)) (Some Other) None))
+-- The first word of a line, as far as its first space, and what follows the space.
+abbrev pub longer_by : ℕ → Option (List ℕ × List ℕ) → Option (List ℕ × List ℕ)
+longer_by b None = None
+longer_by b (Some (word, rest)) = Some (b ∷ word, rest)
 
--- The side that the first word of a line names, and what follows the space behind it.
-abbrev pub with_side : Side → List ℕ → Option (Side × List ℕ)
-with_side side rest = Some (side, rest)
+abbrev pub front_word : List ℕ → Option (List ℕ × List ℕ)
+front_word [] = None
+front_word (b ∷ bs) = cond (b == 32) (Some ([], bs)) (longer_by b (front_word bs))
+
+-- The same with both as slices.
+abbrev pub both_told : Bor (List ℕ) × Bor (List ℕ) → List ℕ × List ℕ
+both_told p = (p.0.now, p.1.now)
+
+-- What the first word of a line names, and what follows the space behind it.
+abbrev pub front_named : {X : Type 0} → (X → List ℕ) → List X → List ℕ → Option (X × List ℕ)
+front_named name all line = and_then (front_word line) (λ word rest. with_rest (named name all word) rest)
 
 abbrev pub front_side : List ℕ → Option (Side × List ℕ)
-front_side line =
-    or_else (after (codes "ancestor ") line) (with_side Ancestor)
-    (or_else (after (codes "current ") line) (with_side Current)
-    (or_else (after (codes "other ") line) (with_side Other) None))
+front_side line = front_named side_word sides line

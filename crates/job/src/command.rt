@@ -9,6 +9,19 @@ pub enum SheetKind {
     Cells,
 }
 
+/// The first word of a command. Some stand alone, others go on, and one does either.
+#[derive(Clone, Copy, PartialEq, Eq, Debug)]
+pub enum Verb {
+    Lines,
+    Sheet,
+    Row,
+    Open,
+    Enter,
+    Withdraw,
+    Held,
+    Help,
+}
+
 /// One line of a job.
 #[derive(Clone, Copy)]
 pub enum Command<'a> {

@@ -4,6 +4,7 @@
 pub mod command;
 pub mod escape;
 pub mod lines;
+pub mod names;
 pub mod outcome;
 pub mod read;
 pub mod spell;

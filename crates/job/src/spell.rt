@@ -1,8 +1,9 @@
 ghost use Rattle.std.specs.Prelude.{◌≡◌, List, [], ◌∷◌, ◌++◌, codes, decimal, OnOk};
 ghost use Rattle.job.specs.Orders.{hunk_text, numbers_text, order, span_text, spelled};
-ghost use Rattle.job.specs.Words.{kind_word, side_word};
+ghost use Rattle.job.specs.Words.{kind_word, side_word, verb_word};
 
-use crate::command::{Command, SheetKind};
+use crate::command::{Command, SheetKind, Verb};
+use crate::names::Named;
 use rules::hunk::{Hunk, Side, Span};
 use std::alloc::AllocError;
 
@@ -11,20 +12,20 @@ pub fn spell(report: &mut Vec<u8>, command: Command<'_>) -> Result<(), AllocErro
     ensures { OnOk result (report.new.items ≡ report.old.items ++ spelled (order command.entry)) }
 {
     match command {
-        Command::Nothing => put(report, b""),
+        Command::Nothing => Ok(()),
         Command::Sheet { side, kind, path } => spell_sheet(report, side, kind, path),
-        Command::Lines { side } => spell_sided(report, b"lines ", side),
+        Command::Lines { side } => spell_sided(report, Verb::Lines, side),
         Command::Row { side, row } => spell_row(report, side, row),
-        Command::Open => put(report, b"open"),
+        Command::Open => put(report, Verb::Open.name().as_bytes()),
         Command::OpenBy {
             ancestor,
             current,
             other,
         } => spell_open(report, ancestor, current, other),
         Command::Enter { hunk } => spell_enter(report, hunk),
-        Command::Withdraw { side } => spell_sided(report, b"withdraw ", side),
-        Command::Held => put(report, b"held"),
-        Command::Help => put(report, b"help"),
+        Command::Withdraw { side } => spell_sided(report, Verb::Withdraw, side),
+        Command::Held => put(report, Verb::Held.name().as_bytes()),
+        Command::Help => put(report, Verb::Help.name().as_bytes()),
     }
 }
 
@@ -36,26 +37,26 @@ fn spell_sheet(
 ) -> Result<(), AllocError>
     ensures { OnOk result (report.new.items ≡ report.old.items ++ (codes "sheet " ++ (side_word side ++ (codes " " ++ (kind_word kind ++ (codes " " ++ path.now)))))) }
 {
-    put(report, b"sheet ")?;
-    put(report, side_word(side))?;
+    spell_sided(report, Verb::Sheet, side)?;
     put(report, b" ")?;
-    put(report, kind_word(kind))?;
+    put(report, kind.name().as_bytes())?;
     put(report, b" ")?;
     put(report, path)
 }
 
-/// A word, its space with it, and a side.
-fn spell_sided(report: &mut Vec<u8>, word: &[u8], side: Side) -> Result<(), AllocError>
-    ensures { OnOk result (report.new.items ≡ report.old.items ++ (word.now ++ side_word side)) }
+/// A word and a side.
+fn spell_sided(report: &mut Vec<u8>, verb: Verb, side: Side) -> Result<(), AllocError>
+    ensures { OnOk result (report.new.items ≡ report.old.items ++ (verb_word verb ++ (codes " " ++ side_word side))) }
 {
-    put(report, word)?;
-    put(report, side_word(side))
+    put(report, verb.name().as_bytes())?;
+    put(report, b" ")?;
+    put(report, side.name().as_bytes())
 }
 
 fn spell_row(report: &mut Vec<u8>, side: Side, row: u32) -> Result<(), AllocError>
     ensures { OnOk result (report.new.items ≡ report.old.items ++ (codes "row " ++ (side_word side ++ (codes " " ++ decimal row)))) }
 {
-    spell_sided(report, b"row ", side)?;
+    spell_sided(report, Verb::Row, side)?;
     put(report, b" ")?;
     put_number(report, row)
 }
@@ -68,7 +69,8 @@ fn spell_open(
 ) -> Result<(), AllocError>
     ensures { OnOk result (report.new.items ≡ report.old.items ++ (codes "open " ++ numbers_text ancestor current other)) }
 {
-    put(report, b"open ")?;
+    put(report, Verb::Open.name().as_bytes())?;
+    put(report, b" ")?;
     put_number(report, ancestor)?;
     put(report, b" ")?;
     put_number(report, current)?;
@@ -79,7 +81,7 @@ fn spell_open(
 fn spell_enter(report: &mut Vec<u8>, hunk: Hunk) -> Result<(), AllocError>
     ensures { OnOk result (report.new.items ≡ report.old.items ++ (codes "enter " ++ (side_word hunk.side ++ (codes " " ++ hunk_text hunk)))) }
 {
-    spell_sided(report, b"enter ", hunk.side)?;
+    spell_sided(report, Verb::Enter, hunk.side)?;
     put(report, b" ")?;
     put_hunk(report, hunk)
 }
@@ -117,24 +119,4 @@ pub fn put(report: &mut Vec<u8>, bytes: &[u8]) -> Result<(), AllocError>
     ensures { OnOk result (report.new.items ≡ report.old.items ++ bytes.now) }
 {
     report.extend_from_slice(bytes)
-}
-
-/// The name of a side.
-pub fn side_word(side: Side) -> &'static [u8]
-    ensures { result.now ≡ side_word side }
-{
-    match side {
-        Side::Ancestor => b"ancestor",
-        Side::Current => b"current",
-        Side::Other => b"other",
-    }
-}
-
-fn kind_word(kind: SheetKind) -> &'static [u8]
-    ensures { result.now ≡ kind_word kind }
-{
-    match kind {
-        SheetKind::Text => b"text",
-        SheetKind::Cells => b"cells",
-    }
 }

@@ -5,15 +5,12 @@ ghost use Rattle.std.specs.Str.{all_ascii_digits};
 ghost use Rattle.job.specs.Numbers.{digit_count, front_number, last_number, number_of, number_then};
 ghost use Rattle.job.specs.Words.{told};
 
-use crate::read::words::what_follows;
-
 /// A number with a mark behind it, and what follows the mark.
 pub(super) fn number_then<'a>(mark: &[u8], line: &'a [u8]) -> Option<(u32, &'a [u8])>
     ensures { option_map told result ≡ number_then mark.now line.now }
 {
     let (n, behind) = front_number(line)?;
-    let rest = what_follows(mark, behind)?;
-    Some((n, rest))
+    Some((n, behind.strip_prefix(mark)?))
 }
 
 /// The number that a whole line is.

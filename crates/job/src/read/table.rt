@@ -4,8 +4,9 @@ ghost use Rattle.std.specs.Option.{option_map};
 ghost use Rattle.job.specs.Orders.{hunk_order, order, read_enter, read_open, read_withdraw};
 
 use crate::command::Command;
+use crate::names::from_name;
 use crate::read::numbers::{last_number, number_then};
-use crate::read::words::{front_side, side_named};
+use crate::read::words::front_named;
 use rules::hunk::{Hunk, Side, Span};
 
 /// Three numbers with a space between them.
@@ -25,7 +26,7 @@ pub(super) fn read_open(line: &[u8]) -> Option<Command<'_>>
 pub(super) fn read_enter(line: &[u8]) -> Option<Command<'_>>
     ensures { option_map order result ≡ read_enter line.now }
 {
-    let (side, rest) = front_side(line)?;
+    let (side, rest) = front_named(line)?;
     read_hunk(side, rest)
 }
 
@@ -51,8 +52,6 @@ fn read_hunk(side: Side, line: &[u8]) -> Option<Command<'_>>
 pub(super) fn read_withdraw(line: &[u8]) -> Option<Command<'_>>
     ensures { option_map order result ≡ read_withdraw line.now }
 {
-    match side_named(line) {
-        Some(side) => Some(Command::Withdraw { side }),
-        None => None,
-    }
+    let side = from_name(line)?;
+    Some(Command::Withdraw { side })
 }

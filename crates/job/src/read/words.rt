@@ -1,50 +1,28 @@
 //! Words at the front of a line.
-ghost use Rattle.std.specs.Prelude.{◌≡◌, codes};
+ghost use Rattle.std.specs.Prelude.{◌≡◌, ◌==◌, position};
 ghost use Rattle.std.specs.Option.{option_map};
-ghost use Rattle.job.specs.Words.{after, front_side, side_named, told};
+ghost use Rattle.job.specs.Words.{both_told, front_named, front_word, told};
 
-use rules::hunk::Side;
-use sheet::line::same_line;
+use crate::names::{Named, from_name};
 
-/// What follows a word at the front of a line.
-pub(super) fn what_follows<'a>(word: &[u8], line: &'a [u8]) -> Option<&'a [u8]>
-    ensures { option_map (λ x. x.now) result ≡ after word.now line.now }
+/// What the first word of a line names, and what follows the space behind it.
+pub(super) fn front_named<N: Named>(line: &[u8]) -> Option<(N, &[u8])>
+    ensures { option_map told result ≡ front_named N.name N.all line.now }
 {
-    if line.starts_with(word) {
-        Some(&line[word.len()..])
-    } else {
-        None
-    }
+    let (word, rest) = front_word(line)?;
+    Some((from_name(word)?, rest))
 }
 
-/// The side that a whole word names.
-pub(super) fn side_named(word: &[u8]) -> Option<Side>
-    ensures { result ≡ side_named word.now }
+/// The first word of a line, as far as its first space, and what follows the space.
+fn front_word(line: &[u8]) -> Option<(&[u8], &[u8])>
+    ensures { option_map both_told result ≡ front_word line.now }
 {
-    if same_line(word, b"ancestor") {
-        return Some(Side::Ancestor);
-    }
-    if same_line(word, b"current") {
-        return Some(Side::Current);
-    }
-    if same_line(word, b"other") {
-        return Some(Side::Other);
-    }
-    None
+    let at = first_space(line)?;
+    Some((&line[..at], &line[at + 1..]))
 }
 
-/// The side that the first word of a line names, and what follows the space behind it.
-pub(super) fn front_side(line: &[u8]) -> Option<(Side, &[u8])>
-    ensures { option_map told result ≡ front_side line.now }
+fn first_space(line: &[u8]) -> Option<usize>
+    ensures { result ≡ position (λ b. b == 32) line.now }
 {
-    if let Some(rest) = what_follows(b"ancestor ", line) {
-        return Some((Side::Ancestor, rest));
-    }
-    if let Some(rest) = what_follows(b"current ", line) {
-        return Some((Side::Current, rest));
-    }
-    if let Some(rest) = what_follows(b"other ", line) {
-        return Some((Side::Other, rest));
-    }
-    None
+    line.iter().position(|b| *b == b' ')
 }

@@ -1,0 +1,14 @@
+use Rattle.std.proofs.Common.{◌+◌, ◌-◌, length, drop, arith, length-drop, rules}
+use Rattle.std.proofs.lemmas.List.{take_all}
+use Rattle.job.proofs.Words.{cut_by_space}
+use Rattle.job.proofs.read.words.front_word.Goals as goal
+
+pub returns-in_err-at : goal.returns-in_err-at
+returns-in_err-at c = let h = cut_by_space c.args.line.now in search rules
+
+pub returns : goal.returns
+returns c =
+    let h = cut_by_space c.args.line.now in
+    let l = length-drop (c.in_ok-at.at + 1) c.args.line.now in
+    let e = take_all (length c.args.line.now - (c.in_ok-at.at + 1)) (drop (c.in_ok-at.at + 1) c.args.line.now) (omega arith) in
+    search rules
