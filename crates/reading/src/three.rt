@@ -39,6 +39,7 @@ pub fn sheets_of<'a, A: Sheet, C: Sheet, O: Sheet>(
     ensures ancestor { result.ancestor.now ≡ ancestor.now }
     ensures current { result.current.now ≡ current.now }
     ensures other { result.other.now ≡ other.now }
+    ensures meaning { ⟦<Sheets<'a, A, C, O> as ThreeSheets>⟧.sheets result ≡ three_lists (A.Sheet.sheet ancestor.now) (C.Sheet.sheet current.now) (O.Sheet.sheet other.now) }
 {
     Sheets {
         ancestor,
