@@ -1,44 +1,33 @@
-use Rattle.std.proofs.Common.{◌≡◌, ℕ, zero, suc, ◌+◌, ◌-◌, ◌*◌, ◌/◌, ◌%◌, ◌<◌, ◌≤◌, Bool, true, false, cond, eqb, ltb, List, [], ◌∷◌, length, get_or, take, drop, is_some, is_ok, Some, None, Err, Option, sym, refl, ap, ◌∙◌, subst, add-zero, arith, length-append, length-take, ltb-false, ltb-true, le-ltb, eq-eqb, ne_eqb, eqb-true}
-use Rattle.std.proofs.lemmas.List.{at_drop_more, at_drop_all, drop-drop, drop-take, take-take, get_or-take, get_or-drop}
+use Rattle.std.proofs.Common.{◌≡◌, ℕ, zero, suc, ◌+◌, ◌-◌, ◌*◌, ◌/◌, ◌%◌, ◌<◌, ◌≤◌, Bool, true, false, not, cond, ◌&&◌, ◌||◌, eqb, ltb, List, [], ◌∷◌, length, get_or, take, drop, is_some, is_ok, Some, None, Err, Option, sym, refl, ap, ◌∙◌, subst, arith, length-append, length-drop, length-take-le, length-take, ltb-false, ltb-true, le-ltb, eq-eqb, ne_eqb, eqb-true}
+use Rattle.std.proofs.lemmas.List.{drop-drop}
 use Rattle.std.proofs.lemmas.Bool.Decides.{nat_tests}
+use Rattle.std.specs.List.{list_any}
+use Rattle.std.specs.Simd.{first_chunks}
 use Rattle.rules.specs.Texts.{joined_lines, nth_line, is_line, are_lines, Formed}
 use Rattle.sheet.specs.Cells.{cell_line, cell_good, cell_lines, first_bad, judged, cells_answer}
 use Rattle.sheet.specs.declared.refusal.SheetRefusal.TheVariants.{CellsUnfit, BadCell}
 use Rattle.sheet.proofs.LineLaws.{both}
 
--- ---- the walk over a line
+-- ---- a line
 
--- what a walk answers that has bytes left: nothing was read (fresh), the last byte was a newline (ended)
-abbrev pub walk : Bool → Bool → Bool → List ℕ → Bool
-walk o true e [] = false
-walk o false e [] = cond e true o
-walk o f true (b ∷ bs) = false
-walk o f false (b ∷ bs) = walk o false (eqb b 10) bs
-
-walk_on : (o : Bool) (b : ℕ) (bs : List ℕ) → walk o false (eqb b 10) bs ≡ is_line o (b ∷ bs)
-walk_on o b [] = refl
-walk_on o b (c ∷ bs) = elim (eqb b 10) as (λ v. walk o false v (c ∷ bs) ≡ cond v false (is_line o (c ∷ bs))) [ true ↦ refl | false ↦ walk_on o c bs ]
-
-pub walk_first : (o : Bool) (t : List ℕ) → walk o true false t ≡ is_line o t
-walk_first o [] = refl
-walk_first o (b ∷ bs) = walk_on o b bs
-
-pub walk_more : (o f e : Bool) (t : List ℕ) (i : ℕ) → e ≡ false → i < length t → walk o f e (drop i t) ≡ walk o false (eqb (get_or t i 0) 10) (drop (i + 1) t)
-walk_more o f e t i h l = ap (λ v. walk o f v (drop i t)) h ∙ at_drop_more (walk o f false) t i 0 l ∙ go f
+-- a line by its bytes ahead of the last, and its last
+pub line_told : (o : Bool) (t : List ℕ) (n : ℕ) → length t ≡ suc n → is_line o t ≡ (not (list_any (λ y. eqb y 10) (take n t)) && (o || eqb (get_or t n 0) 10))
+line_told o [] n e = absurd (omega arith)
+line_told o (b ∷ []) zero e = ends (eqb b 10) o
   where
-    go : (f : Bool) → walk o f false (get_or t i 0 ∷ drop (i + 1) t) ≡ walk o false (eqb (get_or t i 0) 10) (drop (i + 1) t)
-    go true = refl
-    go false = refl
+    ends : (v o : Bool) → cond v true o ≡ (o || v)
+    ends true true = refl
+    ends true false = refl
+    ends false true = refl
+    ends false false = refl
+line_told o (b ∷ []) (suc n) e = absurd (omega arith)
+line_told o (b ∷ (c ∷ bs)) zero e = absurd (omega arith)
+line_told o (b ∷ (c ∷ bs)) (suc n) e =
+    elim (eqb b 10) as (λ v. cond v false (is_line o (c ∷ bs)) ≡ (not (v || list_any (λ y. eqb y 10) (take n (c ∷ bs))) && (o || eqb (get_or (c ∷ bs) n 0) 10)))
+    [ true ↦ refl | false ↦ line_told o (c ∷ bs) n (omega arith) ]
 
-pub walk_broken : (o f e : Bool) (t : List ℕ) (i : ℕ) → e ≡ true → i < length t → walk o f e (drop i t) ≡ false
-walk_broken o f e t i h l = ap (λ v. walk o f v (drop i t)) h ∙ at_drop_more (walk o f true) t i 0 l ∙ go f
-  where
-    go : (f : Bool) → walk o f true (get_or t i 0 ∷ drop (i + 1) t) ≡ false
-    go true = refl
-    go false = refl
-
-pub walk_end : (o f e : Bool) (t : List ℕ) (i : ℕ) → length t ≤ i → walk o f e (drop i t) ≡ walk o f e []
-walk_end o f e t i l = at_drop_all (walk o f e) t i l
+pub line_is : (o v r : Bool) (t : List ℕ) (n : ℕ) → length t ≡ suc n → v ≡ list_any (λ y. eqb y 10) (take n t) → r ≡ (not v && (o || eqb (get_or t n 0) 10)) → r ≡ is_line o t
+line_is o v r t n e f g = g ∙ ap (λ w. not w && (o || eqb (get_or t n 0) 10)) f ∙ sym (line_told o t n e)
 
 -- ---- the cells
 
@@ -93,14 +82,6 @@ cells_bytes at (suc c) m e =
     let t = length-take (get_or (take 48 m) 0 0) (drop 1 (take 48 m)) in
     simp length-append (omega arith)
 
--- the part of the memory that `line` lends
-pub cell_part : (m : List ℕ) (a : ℕ) → get_or (take 48 (drop a m)) 0 0 ≤ 47 → cell_line (take 48 (drop a m)) ≡ take (get_or m a 0) (drop (a + 1) m)
-cell_part m a h =
-    let e : get_or (take 48 (drop a m)) 0 0 ≡ get_or m a 0 = get_or-take 48 (drop a m) 0 0 (omega arith) ∙ get_or-drop a m 0 0 ∙ ap (λ k. get_or m k 0) (add-zero a) in
-    let d : drop 1 (take 48 (drop a m)) ≡ take 47 (drop (a + 1) m) = drop-take 1 47 (drop a m) ∙ ap (take 47) (drop-drop 1 a m) in
-    let l : get_or m a 0 ≤ 47 = omega arith in
-    ap (λ k. take k (drop 1 (take 48 (drop a m)))) e ∙ ap (take (get_or m a 0)) d ∙ take-take (get_or m a 0) 47 (drop (a + 1) m) l
-
 -- ---- the answer
 
 pub record Fit (m : List ℕ) : Type 0 where
@@ -144,37 +125,37 @@ bad_more i c m h =
 
 -- ---- what the functions need
 
-pub stops : (o f e r : Bool) (t : List ℕ) (i : ℕ) → length t ≤ i → walk o f e (drop i t) ≡ r → walk o f e [] ≡ r
-stops o f e r t i l h = sym (walk_end o f e t i l) ∙ h
+pub nth_chunk : (c : ℕ) (m : List ℕ) (n : ℕ) (d : List ℕ) → n < c → get_or (first_chunks 48 c m) n d ≡ take 48 (drop (n * 48) m)
+nth_chunk zero m n d h = absurd (omega arith)
+nth_chunk (suc c) m zero d h = refl
+nth_chunk (suc c) m (suc n) d h = nth_chunk c (drop 48 m) n d (omega arith) ∙ ap (take 48) (drop_cell n m)
 
-pub stops_ended : (o f e r : Bool) (t : List ℕ) (i : ℕ) → f ≡ false → e ≡ true → length t ≤ i → walk o f e (drop i t) ≡ r → true ≡ r
-stops_ended o f e r t i p q l h = simp (p, q) at (stops o f e r t i l h)
+length_chunks : (c : ℕ) (m : List ℕ) → length (first_chunks 48 c m) ≡ c
+length_chunks zero m = refl
+length_chunks (suc c) m = ap suc (length_chunks c (drop 48 m))
 
-pub stops_open : (o f e r : Bool) (t : List ℕ) (i : ℕ) → f ≡ false → e ≡ false → length t ≤ i → walk o f e (drop i t) ≡ r → o ≡ r
-stops_open o f e r t i p q l h = simp (p, q) at (stops o f e r t i l h)
+-- cell n among the cells of a memory
+pub chunk_is : (m : List ℕ) (cells : List (List ℕ)) (n : ℕ) → cells ≡ first_chunks 48 (length m / 48) m → n < length cells → (n < length m / 48) × (get_or cells n [] ≡ take 48 (drop (n * 48) m))
+chunk_is m cells n e h =
+    let l = ap length e ∙ length_chunks (length m / 48) m in
+    (omega arith, ap (λ cs. get_or cs n []) e ∙ nth_chunk (length m / 48) m n [] (omega arith))
 
-pub stops_fresh : (o f e r : Bool) (t : List ℕ) (i : ℕ) → f ≡ true → length t ≤ i → walk o f e (drop i t) ≡ r → false ≡ r
-stops_fresh o f e r t i p l h = simp p at (stops o f e r t i l h)
-
-pub cell_within : (m : List ℕ) (n : ℕ) → is_ok (cells_answer m) ≡ true → n < length m / 48 → n * 48 + 1 + get_or m (n * 48) 0 ≤ length m
-cell_within m n h l =
+-- a cell of a sheet, and the part of it that `line` lends
+pub cell_fits : (m : List ℕ) (n : ℕ) (cell : List ℕ) → cell ≡ take 48 (drop (n * 48) m) → is_ok (cells_answer m) ≡ true → n < length m / 48 → (length cell ≡ 48) × (get_or cell 0 0 ≤ 47)
+cell_fits m n cell e h l =
     let f = cells_fit m h in
     let s = cell_short 0 (length m / 48) m n f.good l in
-    let e : get_or (take 48 (drop (n * 48) m)) 0 0 ≡ get_or m (n * 48) 0 = get_or-take 48 (drop (n * 48) m) 0 0 (omega arith) ∙ get_or-drop (n * 48) m 0 0 ∙ ap (λ k. get_or m k 0) (add-zero (n * 48)) in
-    omega arith
+    let d = length-drop (n * 48) m in
+    (ap length e ∙ length-take-le 48 (drop (n * 48) m) (omega arith), subst (λ (x : List ℕ). get_or x 0 0 ≤ 47) (sym e) s)
 
-pub cell_shown : (m : List ℕ) (n : ℕ) → is_ok (cells_answer m) ≡ true → n < length m / 48 → Some (take (n * 48 + 1 + get_or m (n * 48) 0 - (n * 48 + 1)) (drop (n * 48 + 1) m)) ≡ nth_line (cell_lines (length m / 48) m) n
-cell_shown m n h l =
-    let f = cells_fit m h in
-    let s = cell_short 0 (length m / 48) m n f.good l in
-    let a : n * 48 + 1 + get_or m (n * 48) 0 - (n * 48 + 1) ≡ get_or m (n * 48) 0 = omega arith in
-    ap (λ k. Some (take k (drop (n * 48 + 1) m))) a ∙ ap Some (sym (cell_part m (n * 48) s)) ∙ sym (nth_in_cells (length m / 48) m n l)
+pub cell_shown : (m : List ℕ) (n k : ℕ) (cell : List ℕ) → cell ≡ take 48 (drop (n * 48) m) → n < length m / 48 → k ≡ get_or cell 0 0 → Some (take k (drop 1 cell)) ≡ nth_line (cell_lines (length m / 48) m) n
+cell_shown m n k cell e l f = ap (λ j. Some (take j (drop 1 cell))) f ∙ ap (λ x. Some (cell_line x)) e ∙ sym (nth_in_cells (length m / 48) m n l)
 
-pub bad_step : (i c k : ℕ) (m : List ℕ) (v : Bool) → i < c → k ≡ 48 → v ≡ cell_good (eqb (i + 1) c) (take k (drop (i * 48) m)) → first_bad i (c - i) (drop (i * 48) m) ≡ cond v (first_bad (i + 1) (c - (i + 1)) (drop ((i + 1) * 48) m)) (Some i)
-bad_step i c k m v h e g =
-    bad_more i c m h ∙
-    ap (λ w. cond w (first_bad (i + 1) (c - (i + 1)) (drop ((i + 1) * 48) m)) (Some i))
-    (sym (g ∙ ap (λ j. cell_good (eqb (i + 1) c) (take j (drop (i * 48) m))) e))
+pub bad_step : (m : List ℕ) (cells : List (List ℕ)) (i : ℕ) (v : Bool) → cells ≡ first_chunks 48 (length m / 48) m → i < length cells → v ≡ cell_good (eqb (i + 1) (length cells)) (get_or cells i []) → first_bad i (length cells - i) (drop (i * 48) m) ≡ cond v (first_bad (i + 1) (length cells - (i + 1)) (drop ((i + 1) * 48) m)) (Some i)
+bad_step m cells i v e h g =
+    bad_more i (length cells) m h ∙
+    ap (λ w. cond w (first_bad (i + 1) (length cells - (i + 1)) (drop ((i + 1) * 48) m)) (Some i))
+    (sym (g ∙ ap (cell_good (eqb (i + 1) (length cells))) (chunk_is m cells i e h).1))
 
 pub answer_bad : (m : List ℕ) (i : ℕ) → length m % 48 ≡ 0 → length m / 48 ≤ 1024 → first_bad 0 (length m / 48) m ≡ Some i → Err (BadCell i) ≡ cells_answer m
 answer_bad m i w f h =

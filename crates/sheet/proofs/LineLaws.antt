@@ -1,5 +1,7 @@
 use Rattle.std.proofs.Common.{◌≡◌, ℕ, zero, suc, ◌+◌, ◌-◌, ◌<◌, ◌≤◌, Bool, true, false, cond, eqb, List, [], ◌∷◌, ◌++◌, length, get_or, take, drop, Some, None, sym, refl, ap, ◌∙◌, add-zero, suc-add, zero-add, arith, length-append}
-use Rattle.std.proofs.lemmas.List.{drop_all, take_at, append-nil}
+use Rattle.std.proofs.lemmas.List.{take_at, append-nil}
+use Rattle.std.specs.List.{sum_by}
+use Rattle.std.proofs.lemmas.List.Sums.{sum_by-cons}
 use Rattle.rules.specs.Texts.{onto, text_lines, joined_lines, nth_line, is_line, are_lines, Formed}
 use Rattle.sheet.specs.Splits.{LineLaw}
 use Rattle.sheet.specs.Starts.{starts_at}
@@ -24,6 +26,15 @@ start_at k [] n h = absurd (omega arith)
 start_at k (l ∷ ls) zero h = sym (add-zero k)
 start_at k (l ∷ ls) (suc n) h = start_at (k + length l) ls n (omega arith) ∙ omega arith
 
+-- behind the last line the text ends
+pub end_at : (k d : ℕ) (ls : List (List ℕ)) (n : ℕ) → d ≡ k + length (joined_lines ls) → n < length ls → get_or (starts_at k ls) (n + 1) d ≡ k + place ls (suc n)
+end_at k d [] n e h = absurd (omega arith)
+end_at k d (l ∷ []) zero e h = let f = length-append l [] in omega arith
+end_at k d (l ∷ (m ∷ ls)) zero e h = omega arith
+end_at k d (l ∷ ls) (suc n) e h =
+    let f = length-append l (joined_lines ls) in
+    rw suc-add (end_at (k + length l) d ls n (omega arith) (omega arith) ∙ omega arith)
+
 pub place_up : (ls : List (List ℕ)) (n : ℕ) → place ls n ≤ place ls (suc n)
 place_up ls zero = omega arith
 place_up [] (suc n) = omega arith
@@ -33,10 +44,6 @@ pub place_within : (ls : List (List ℕ)) (n : ℕ) → place ls n ≤ length (j
 place_within ls zero = omega arith
 place_within [] (suc n) = omega arith
 place_within (l ∷ ls) (suc n) = let h = place_within ls n in simp length-append (omega arith)
-
-pub place_all : (ls : List (List ℕ)) → place ls (length ls) ≡ length (joined_lines ls)
-place_all [] = refl
-place_all (l ∷ ls) = simp length-append (ap (λ k. length l + k) (place_all ls))
 
 pub drop_past : (l t : List ℕ) (n : ℕ) → drop (length l + n) (l ++ t) ≡ drop n t
 drop_past [] t n = rw zero-add
@@ -140,17 +147,18 @@ line_law t = record {
 pub formed_split : (t : List ℕ) → length t ≤ 60000 → length (text_lines t) ≤ 4096 → Formed (text_lines t)
 formed_split t small few = (lines_split t, few, rw (bytes_split t) small)
 
--- the bytes from line n on: those of the line, and those behind it
-pub bytes_more : (ls : List (List ℕ)) (n : ℕ) (l : List ℕ) → Some l ≡ nth_line ls n → length (joined_lines (drop n ls)) ≡ length l + length (joined_lines (drop (n + 1) ls))
-bytes_more [] n l e = absurd (let z : ◌≡◌ {A = ℕ} 0 1 = cc in omega arith)
-bytes_more (m ∷ ls) zero l e = let f : m ≡ l = cc in length-append m (joined_lines ls) ∙ ap (λ k. length k + length (joined_lines ls)) f
-bytes_more (m ∷ ls) (suc n) l e = rw suc-add (bytes_more ls n l e)
+-- the lines from line n on: that line, and those behind it
+pub next_line : (ls : List (List ℕ)) (n : ℕ) (l : List ℕ) → Some l ≡ nth_line ls n → (n < length ls) × (drop n ls ≡ l ∷ drop (n + 1) ls)
+next_line [] n l e = absurd (let z : ◌≡◌ {A = ℕ} 0 1 = cc in omega arith)
+next_line (m ∷ ls) zero l e = let f : m ≡ l = cc in (omega arith, ap (λ k. k ∷ ls) f)
+next_line (m ∷ ls) (suc n) l e = let h = next_line ls n l e in (let k = h.0 in omega arith, rw suc-add h.1)
 
-pub bytes_past : (ls : List (List ℕ)) (n : ℕ) → None ≡ nth_line ls n → length (joined_lines (drop n ls)) ≡ length (joined_lines (drop (n + 1) ls))
-bytes_past [] zero e = refl
-bytes_past [] (suc n) e = rw suc-add refl
-bytes_past (m ∷ ls) zero e = absurd (let z : ◌≡◌ {A = ℕ} 0 1 = cc in omega arith)
-bytes_past (m ∷ ls) (suc n) e = rw suc-add (bytes_past ls n e)
+pub no_line : (ls : List (List ℕ)) (n : ℕ) → None ≡ nth_line ls n → drop n ls ≡ []
+no_line [] zero e = refl
+no_line [] (suc n) e = refl
+no_line (m ∷ ls) zero e = absurd (let z : ◌≡◌ {A = ℕ} 0 1 = cc in omega arith)
+no_line (m ∷ ls) (suc n) e = no_line ls n e
 
-pub bytes_done : (ls : List (List ℕ)) (n : ℕ) → length ls ≤ n → length (joined_lines (drop n ls)) ≡ 0
-bytes_done ls n h = ap (λ k. length (joined_lines k)) (drop_all n ls h)
+pub bytes_summed : (ls : List (List ℕ)) → sum_by length ls ≡ length (joined_lines ls)
+bytes_summed [] = refl
+bytes_summed (l ∷ ls) = sum_by-cons length l ls ∙ ap (λ k. length l + k) (bytes_summed ls) ∙ sym (length-append l (joined_lines ls))

@@ -3,6 +3,7 @@
 
 pub mod cells;
 pub mod line;
+pub mod lines;
 pub mod refusal;
 pub mod sheet;
 pub mod split;

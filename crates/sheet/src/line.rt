@@ -5,6 +5,7 @@ ghost use Rattle.rules.specs.Lines.{same_line};
 use rules::ending::Ending;
 
 /// Whether two lines have the same bytes.
+// Stays: (d) the body is `==` already.
 pub fn same_line(a: &[u8], b: &[u8]) -> bool
     ensures { result ≡ same_line a.now b.now }
 {
@@ -15,6 +16,7 @@ pub fn same_line(a: &[u8], b: &[u8]) -> bool
 pub fn ending_of(line: &[u8]) -> Option<Ending>
     ensures { result ≡ line_ending line.now }
 {
+    // Stays: (a) slice patterns on the line decide its ending.
     match line {
         [.., b'\r', b'\n'] => Some(Ending::ReturnNewline),
         [_, .., b'\n'] => Some(Ending::Newline),

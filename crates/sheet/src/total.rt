@@ -7,11 +7,5 @@ use crate::sheet::Sheet;
 pub fn bytes_in<S: Sheet>(sheet: &S) -> u32
     ensures { result ≡ length (joined_lines (S.Sheet.sheet sheet.now).lines) }
 {
-    let mut sum = 0;
-    for n in 0..sheet.count() {
-        if let Some(line) = sheet.line(n) {
-            sum += line.len() as u32;
-        }
-    }
-    sum
+    sheet.lines().map(|line| line.len()).sum::<usize>() as u32
 }

@@ -24,15 +24,14 @@ pub fn shows_none<S: Sheet>(sheet: &S) -> bool {
     sheet.count() == 0 && sheet.line(0).is_none()
 }
 
-/// Whether the text, opened with this table, shows this line at `n`.
+/// Whether the text with this table shows this line at `n`.
 pub fn text_shows<'x>(text: &'x [u8], starts: &'x [u32], n: u32, want: &[u8]) -> bool {
-    let mut sheet = TextSheet::empty();
-    sheet.open(text, starts).is_ok() && shows(&sheet, n, want)
+    TextSheet::new(text, starts).is_ok_and(|sheet| shows(&sheet, n, want))
 }
 
 /// The number of the refusal that a text meets with this table.
 pub fn text_refused<'x>(text: &'x [u8], starts: &'x [u32]) -> Option<u32> {
-    let refusal = TextSheet::empty().open(text, starts).err()?;
+    let refusal = TextSheet::new(text, starts).err()?;
     Some(refusal.number())
 }
 
@@ -44,23 +43,20 @@ pub fn text_kept<'x>(text: &'x [u8], starts: &'x [u32]) -> bool {
         && shows_two(&sheet, b"a\n", b"b")
 }
 
-/// Whether the memory, opened, shows this line at `n`.
+/// Whether the memory's cells show this line at `n`.
 pub fn cells_show<'x>(memory: &'x [u8], n: u32, want: &[u8]) -> bool {
-    let mut sheet = CellSheet::empty();
-    sheet.open(memory).is_ok() && shows(&sheet, n, want)
+    CellSheet::new(memory).is_ok_and(|sheet| shows(&sheet, n, want))
 }
 
 /// What refuses the memory's cells: number and place.
 pub fn cells_refused<'x>(memory: &'x [u8]) -> Option<(u32, u32)> {
-    let refusal = CellSheet::empty().open(memory).err()?;
+    let refusal = CellSheet::new(memory).err()?;
     Some((refusal.number(), refusal.place()))
 }
 
 /// How many lines the memory's cells hold.
 pub fn cells_shown<'x>(memory: &'x [u8]) -> Result<u32, SheetRefusal> {
-    let mut sheet = CellSheet::empty();
-    sheet.open(memory)?;
-    Ok(sheet.count())
+    Ok(CellSheet::new(memory)?.count())
 }
 
 /// Whether a sheet of this memory still shows "a\n" and "b" when another memory was refused.

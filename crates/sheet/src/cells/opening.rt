@@ -1,4 +1,5 @@
-ghost use Rattle.std.specs.Prelude.{◌≡◌, ℕ, ◌+◌, ◌/◌, ◌<◌, ◌≤◌, true, false, [], length, is_ok};
+ghost use Rattle.std.specs.Prelude.{◌≡◌, ℕ, ◌+◌, ◌/◌, ◌<◌, ◌≤◌, true, false, [], length, is_ok, IfOk};
+ghost use Rattle.std.specs.Result.{result_map_both};
 ghost use Rattle.rules.specs.Texts.{is_line};
 ghost use Rattle.sheet.specs.Cells.{CellLaw, cell_size, cell_good, memory_lines, cells_answer};
 ghost use Rattle.sheet.specs.Splits.{lines_after};
@@ -6,6 +7,7 @@ ghost use Rattle.sheet.specs.contracts.cells.ops.CellSheetSheet.TheImpl.{ghosts 
 
 use crate::cells::{CELL_SIZE, CellSheet, MAX_CELLS};
 use crate::refusal::SheetRefusal;
+use crate::sheet::Sheet;
 
 impl<'a> CellSheet<'a> {
     /// The sheet with no lines.
@@ -13,6 +15,17 @@ impl<'a> CellSheet<'a> {
         ensures { ((meaning.sheet result).lines ≡ []) × (result.memory.now ≡ []) }
     {
         CellSheet { memory: &[] }
+    }
+
+    /// The sheet of the lines in a memory's cells, or why there is none.
+    pub fn new(memory: &'a [u8]) -> Result<CellSheet<'a>, SheetRefusal>
+        ensures answer { result_map_both (λ s. length (meaning.sheet s).lines) (λ e. e) result ≡ cells_answer memory.now }
+        ensures shown { IfOk result (λ s. (meaning.sheet s).lines ≡ memory_lines memory.now) }
+        ensures opened { IfOk result (λ s. s.memory ≡ memory.entry) }
+        ensures law { CellLaw memory.now }
+    {
+        checked(memory)?;
+        Ok(CellSheet { memory })
     }
 
     /// Makes this the sheet of the lines in a memory's cells, and answers their number. A refusal leaves the sheet as it was.
@@ -23,9 +36,8 @@ impl<'a> CellSheet<'a> {
         ensures refused { is_ok result ≡ false → self.new ≡ self.old }
         ensures law { CellLaw memory.now }
     {
-        let lines = checked(memory)?;
-        *self = CellSheet { memory };
-        Ok(lines)
+        *self = CellSheet::new(memory)?;
+        Ok(self.count())
     }
 }
 
@@ -33,46 +45,32 @@ impl<'a> CellSheet<'a> {
 fn checked(memory: &[u8]) -> Result<u32, SheetRefusal>
     ensures { result ≡ cells_answer memory.now }
 {
-    if memory.len() % CELL_SIZE != 0 {
+    let (cells, rest) = memory.as_chunks::<CELL_SIZE>();
+    if !rest.is_empty() || cells.len() > MAX_CELLS {
         return Err(SheetRefusal::CellsUnfit);
     }
-    let count = memory.len() / CELL_SIZE;
-    if count > MAX_CELLS {
-        return Err(SheetRefusal::CellsUnfit);
-    }
-    for i in 0..count {
-        let at = i * CELL_SIZE;
-        if !cell_stands(&memory[at..at + CELL_SIZE], i + 1 == count) {
+    for (i, cell) in cells.iter().enumerate() {
+        if !cell_stands(cell, i + 1 == cells.len()) {
             return Err(SheetRefusal::BadCell(i as u32));
         }
     }
-    Ok(count as u32)
+    Ok(cells.len() as u32)
 }
 
 /// Whether a cell holds a line, which may lack its newline only in the last cell.
-fn cell_stands(cell: &[u8], last: bool) -> bool
-    requires { length cell.now ≡ cell_size }
+fn cell_stands(cell: &[u8; CELL_SIZE], last: bool) -> bool
     ensures { result ≡ cell_good last cell.now }
 {
     let len = cell[0] as usize;
-    if len >= CELL_SIZE {
-        return false;
-    }
-    line_stands(&cell[1..1 + len], last)
+    len < CELL_SIZE && line_stands(&cell[1..=len], last)
 }
 
 /// Whether the bytes are a line, which may lack its newline only where it may be open.
 fn line_stands(line: &[u8], open: bool) -> bool
     ensures { result ≡ is_line «open» line.now }
 {
-    let mut fresh = true;
-    let mut ended = false;
-    for b in line {
-        if ended {
-            return false;
-        }
-        fresh = false;
-        ended = *b == b'\n';
+    match line {
+        [front @ .., last] => !front.contains(&b'\n') && (open || *last == b'\n'),
+        [] => false,
     }
-    !fresh && (ended || open)
 }

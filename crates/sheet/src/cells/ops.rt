@@ -13,11 +13,8 @@ impl Sheet for CellSheet<'_> {
     }
 
     fn line(&self, n: u32) -> Option<&[u8]> {
-        if n as usize >= self.memory.len() / CELL_SIZE {
-            return None;
-        }
-        let at = n as usize * CELL_SIZE;
-        let len = self.memory[at] as usize;
-        Some(&self.memory[at + 1..at + 1 + len])
+        let (cells, _) = self.memory.as_chunks::<CELL_SIZE>();
+        let cell = cells.get(n as usize)?.as_slice();
+        Some(&cell[1..=cell[0] as usize])
     }
 }

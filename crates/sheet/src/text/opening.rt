@@ -1,4 +1,5 @@
-ghost use Rattle.std.specs.Prelude.{◌≡◌, ℕ, true, false, [], is_ok, Ok};
+ghost use Rattle.std.specs.Prelude.{◌≡◌, ℕ, true, false, [], is_ok, IfOk, Ok};
+ghost use Rattle.std.specs.Result.{result_map_both};
 ghost use Rattle.rules.specs.Texts.{text_lines};
 ghost use Rattle.sheet.specs.Splits.{TextLaw, lines_after, text_answer};
 ghost use Rattle.sheet.specs.contracts.text.ops.TextSheetSheet.TheImpl.{ghosts as meaning};
@@ -19,6 +20,21 @@ impl<'a> TextSheet<'a> {
         }
     }
 
+    /// The sheet of a text whose line starts stand in the table, or why there is none.
+    pub fn new(text: &'a [u8], starts: &'a [u32]) -> Result<TextSheet<'a>, SheetRefusal>
+        ensures answer { result_map_both (λ s. s.lines) (λ e. e) result ≡ text_answer text.now starts.now }
+        ensures shown { IfOk result (λ s. (meaning.sheet s).lines ≡ text_lines text.now) }
+        ensures opened { IfOk result (λ s. (s.text ≡ text.entry) × (s.starts ≡ starts.entry)) }
+        ensures law { TextLaw text.now starts.now }
+    {
+        let lines = checked(text, starts)?;
+        Ok(TextSheet {
+            text,
+            starts,
+            lines,
+        })
+    }
+
     /// Makes this the sheet of another text, whose line starts stand in the table, and answers its number of lines.
     /// A refusal leaves the sheet as it was.
     pub fn open(&mut self, text: &'a [u8], starts: &'a [u32]) -> Result<u32, SheetRefusal>
@@ -28,13 +44,8 @@ impl<'a> TextSheet<'a> {
         ensures refused { is_ok result ≡ false → self.new ≡ self.old }
         ensures law { TextLaw text.now starts.now }
     {
-        let lines = checked(text, starts)?;
-        *self = TextSheet {
-            text,
-            starts,
-            lines,
-        };
-        Ok(lines)
+        *self = TextSheet::new(text, starts)?;
+        Ok(self.lines)
     }
 }
 

@@ -13,15 +13,11 @@ impl Sheet for TextSheet<'_> {
     }
 
     fn line(&self, n: u32) -> Option<&[u8]> {
-        if n >= self.count() {
-            return None;
-        }
-        let from = self.starts[n as usize] as usize;
-        let to = if n + 1 < self.count() {
-            self.starts[n as usize + 1] as usize
-        } else {
-            self.text.len()
-        };
-        Some(&self.text[from..to])
+        let starts = &self.starts[..self.lines as usize];
+        let from = *starts.get(n as usize)?;
+        let to = starts
+            .get(n as usize + 1)
+            .map_or(self.text.len(), |next| *next as usize);
+        Some(&self.text[from as usize..to])
     }
 }

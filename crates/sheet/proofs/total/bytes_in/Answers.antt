@@ -1,36 +1,30 @@
-use Rattle.std.proofs.Common.{arith}
-use Rattle.sheet.proofs.LineLaws.{bytes_more, bytes_past, bytes_done}
+use Rattle.std.proofs.Common.{length, drop, ◌∙◌, arith, rules, tests}
+use Rattle.std.proofs.lemmas.Iterator.{YieldsList-from_map}
+use Rattle.std.proofs.lemmas.Iterator.Consumers.{YieldsList-from_first, sum_by_from_yields_List, fits_by_from_yields_list}
+use Rattle.sheet.proofs.LineLaws.{bytes_summed}
 use Rattle.sheet.proofs.total.bytes_in.Goals as goal
-use Rattle.sheet.proofs.total.bytes_in.Goals.{in-Some, in_default}
 
-pub overflow_cast-sum : goal.overflow_cast-sum
-overflow_cast-sum g c =
+pub sum-requires-clause-fits : goal.sum-requires-clause-fits
+sum-requires-clause-fits g c =
     let ls = (g.S.Sheet.sheet c.args.sheet.now).lines in
     let short = (g.S.Sheet.sheet c.args.sheet.now).formed.2 in
-    let h = bytes_more ls c.loop-n.n c.in-Some.line.now c.in-Some.ensures in
-    let i = c.loop-n.invariant in
-    omega arith
+    let e = bytes_summed ls in
+    fits_by_from_yields_list length ls c.map.result _
+    (YieldsList-from_map _ length (YieldsList-from_first (λ x. x.now) (λ s. drop s.at (g.S.Sheet.sheet s.sheet.now).lines) ls cc) c.map.ensures.closure (λ x r q k. search (rules, tests)))
+    (omega arith)
 
-pub overflow_add-sum : goal.overflow_add-sum
-overflow_add-sum g c =
+pub overflow_cast-result : goal.overflow_cast-result
+overflow_cast-result g c =
     let ls = (g.S.Sheet.sheet c.args.sheet.now).lines in
     let short = (g.S.Sheet.sheet c.args.sheet.now).formed.2 in
-    let h = bytes_more ls c.loop-n.n c.in-Some.line.now c.in-Some.ensures in
-    let i = c.loop-n.invariant in
+    let e = bytes_summed ls in
+    let t = sum_by_from_yields_List length ls c.map.result c.sum.result c.sum.ensures.ran
+    (YieldsList-from_map _ length (YieldsList-from_first (λ x. x.now) (λ s. drop s.at (g.S.Sheet.sheet s.sheet.now).lines) ls cc) c.map.ensures.closure (λ x r q k. search (rules, tests))) in
     omega arith
-
-pub loop-n-preserved : goal.loop-n-preserved
-loop-n-preserved g c =
-    let ls = (g.S.Sheet.sheet c.args.sheet.now).lines in
-    let i = c.loop-n.invariant in
-    elim c.match-line.branch [
-      | in-Some w ↦ let h = bytes_more ls c.loop-n.n w.in-Some.line.now w.in-Some.ensures in omega (arith, w.sum-is)
-      | in_default w ↦ let h = bytes_past ls c.loop-n.n w.in_default.ensures in omega (arith, w.sum-is)
-    ]
 
 pub returns : goal.returns
 returns g c =
     let ls = (g.S.Sheet.sheet c.args.sheet.now).lines in
-    let h = bytes_done ls c.loop-n.n (omega arith) in
-    let i = c.loop-n.invariant in
-    omega arith
+    sum_by_from_yields_List length ls c.map.result c.sum.result c.sum.ensures.ran
+    (YieldsList-from_map _ length (YieldsList-from_first (λ x. x.now) (λ s. drop s.at (g.S.Sheet.sheet s.sheet.now).lines) ls cc) c.map.ensures.closure (λ x r q k. search (rules, tests))) ∙
+    bytes_summed ls
