@@ -1,7 +1,7 @@
 -- A hunk that a side offers: it is there, and touches the last one taken of the facing side.
 use Rattle.std.proofs.Common.{◌≡◌, ℕ, zero, suc, ◌-◌, ◌<◌, ◌≤◌, Bool, true, false, List, [], ◌∷◌, length, get_or, take, drop, Some, None, Option, sym, refl, ap, ◌∙◌, ap₂, ⊎_elim, arith}
 use Rattle.std.specs.List.{slice_get}
-use Rattle.std.proofs.lemmas.List.{take_all, take_rest}
+use Rattle.std.proofs.lemmas.List.{take_rest}
 use Rattle.std.proofs.lemmas.Option.{slice_get-get_or, slice_get_past}
 use Rattle.std.proofs.lemmas.Bool.{cases_lt, false≢true}
 use Rattle.rules.specs.declared.hunk.Hunk.{Hunk}
@@ -38,12 +38,6 @@ next_left (x ∷ xs) (suc k) = next_left xs k
 pub offer_is : (xs ys : List Hunk) (k m : ℕ) → offer xs k ys m ≡ offers (slice_get xs k) (last_of (take m ys))
 offer_is xs ys k m = ap (λ (o : Option Hunk). offers o (last_of (take m ys))) (ap (λ (l : List Hunk). slice_get l 0) (take_rest xs k) ∙ next_left xs k)
 
--- What is offered by the first place of one slice and the last place of another.
-pub offered_by : (left taken : List Hunk) → 0 < length left → 0 < length taken
-    → touches (get_or left 0 no_hunk) (get_or taken (length taken - 1) no_hunk) ≡ offers (slice_get left 0) (last_of taken)
-offered_by left taken p q =
-    sym (offered_is left taken 0 (length taken) p q (omega arith)) ∙ ap (λ (l : List Hunk). offers (slice_get left 0) (last_of l)) (take_all (length taken) taken (omega arith))
-
 pub record Offered (xs : List Hunk) (k : ℕ) (ys : List Hunk) (m : ℕ) : Type 0 where
   pub below : k < length xs
   pub some : 0 < m
@@ -59,6 +53,3 @@ offered xs ys k m le o =
     (cases_lt 0 m))
     (λ (b : length xs ≤ k). absurd (false≢true (sym (none_next xs ys k m b) ∙ e)))
     (cases_lt k (length xs))
-
-pub offered_below : (xs ys : List Hunk) (k m : ℕ) → m ≤ length ys → true ≡ offer xs k ys m → k < length xs
-offered_below xs ys k m le e = (offered xs ys k m le e).below

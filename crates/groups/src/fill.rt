@@ -1,6 +1,5 @@
 //! One side of a group over its whole range.
 ghost use Rattle.std.specs.Prelude.{◌≡◌, ℕ, ◌<◌, ◌≤◌, ◌++◌, length};
-ghost use Rattle.hunks.specs.Lists.{held};
 ghost use Rattle.rules.specs.Filling.{stretch, filled};
 ghost use Rattle.rules.specs.Limits.{max_hunks, max_filled};
 
@@ -10,8 +9,8 @@ use rules::limits::MAX_FILLED;
 
 // The ancestor lines `from..to` go into the list as a hunk, if there are any.
 fn push_stretch(list: &mut HunkList<MAX_FILLED>, from: u32, to: u32)
-    requires { length (held list.old) < max_filled }
-    ensures { held list.new ≡ held list.old ++ stretch from to }
+    requires { length list.old < max_filled }
+    ensures { list.new ≡ list.old ++ stretch from to }
 {
     if from < to {
         let lines = Span {
@@ -29,7 +28,7 @@ fn push_stretch(list: &mut HunkList<MAX_FILLED>, from: u32, to: u32)
 /// Fills a working list with one side's hunks and the stretches of the range outside them.
 pub fn fill_ancestor(hunks: &[Hunk], range: Span, list: &mut HunkList<MAX_FILLED>)
     requires { length hunks.now ≤ max_hunks }
-    ensures { held list.new ≡ filled range.start range.end hunks.now }
+    ensures { list.new ≡ filled range.start range.end hunks.now }
 {
     list.truncate(0);
     // Stays: with pairs of neighbours in place of `at`, the first and the last stretch would be cases of their own.

@@ -14,8 +14,8 @@ use rules::hunk::{Hunk, Side};
 fn is_offered(left: &[Hunk], taken: &[Hunk]) -> bool
     ensures { result ≡ offers (slice_get left.now 0) (last_of taken.now) }
 {
-    match (left, taken) {
-        ([next, ..], [.., last]) => touch(*next, *last),
+    match (left.first(), taken.last()) {
+        (Some(next), Some(last)) => touch(*next, *last),
         _ => false,
     }
 }

@@ -1,9 +1,8 @@
 use Rattle.std.proofs.Common.{◌≡◌, ◌*◌, ◌≤◌, ◌++◌, length, drop}
-use Rattle.hunks.specs.Lists.{held}
 use Rattle.rules.specs.Filling.{filled}
 use Rattle.groups.proofs.fill.fill_ancestor.Given as goal
 
 abbrev pub invariant-loop-hunk : goal.invariant-loop-hunk
 invariant-loop-hunk l =
-    (length (held l.list) ≤ 2 * l.hunk-index)
-    × (held l.list ++ filled l.at l.range.end (drop l.hunk-index l.hunks) ≡ filled l.range.start l.range.end l.hunks)
+    (length l.list ≤ 2 * l.hunk-index)
+    × (l.list ++ filled l.at l.range.end (drop l.hunk-index l.hunks) ≡ filled l.range.start l.range.end l.hunks)

@@ -1,6 +1,9 @@
-use Rattle.std.proofs.Common.{◌∙◌, rules}
-use Rattle.groups.proofs.Offered.{offered_by}
+use Rattle.std.proofs.Common.{rules}
+use Rattle.hunks.proofs.Helds.{last_held}
 use Rattle.groups.proofs.take.is_offered.Goals as goal
 
-pub returns-in-len1-up-len1-up : goal.returns-in-len1-up-len1-up
-returns-in-len1-up-len1-up c = c.touch.ensures ∙ offered_by c.args.left.now c.args.taken.now (search rules) (search rules)
+pub returns-in-Some-Some : goal.returns-in-Some-Some
+returns-in-Some-Some c = search (rules, last_held)
+
+pub returns-in_default-2 : goal.returns-in_default-2
+returns-in_default-2 c = search (rules, last_held)

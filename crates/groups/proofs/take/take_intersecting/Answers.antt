@@ -1,5 +1,4 @@
-use Rattle.std.proofs.Common.{◌<◌, length, sym, subst, arith}
-use Rattle.groups.proofs.Offered.{offered_below}
+use Rattle.std.proofs.Common.{sym, subst, arith}
 use Rattle.groups.proofs.Growing.{Growing, grow_other, grow_current, complete, taken_is}
 use Rattle.groups.proofs.Starting.{started}
 use Rattle.groups.proofs.Clustered.{our_run, their_run}
@@ -13,12 +12,6 @@ group-init c =
     let e = c.one_of-i.ensures in
     subst (λ p. Growing cs os p.0 p.1) (sym e) (started cs os c.args.ahead.first (our_run cs os k) (their_run cs os k) c.args.ahead.leads)
 
-pub loop-j-smaller : goal.loop-j-smaller
-loop-j-smaller c =
-    let g = c.loop-j.invariant.0 in
-    let o : c.loop-j.j < length c.args.ahead.other.now = offered_below c.args.ahead.other.now c.args.ahead.current.now c.loop-j.j c.group.i g.our_bound c.loop-j-test.ensures in
-    omega arith
-
 pub loop-j-preserved : goal.loop-j-preserved
 loop-j-preserved c =
     let cs = c.args.ahead.current.now in
@@ -28,33 +21,12 @@ loop-j-preserved c =
     let p = c.loop-j.invariant.1 in
     (grow_other cs os (our_run cs os k) (their_run cs os k) _ _ g c.loop-j-test.ensures, omega arith)
 
-pub is_offered-requires-in-more-2 : goal.is_offered-requires-in-more-2
-is_offered-requires-in-more-2 c =
-    let g = c.more.invariant.0 in
-    let o : c.more.i < length c.args.ahead.current.now = offered_below c.args.ahead.current.now c.args.ahead.other.now c.more.i c.loop-j.j g.their_bound c.if-not-is_offered.ensures in
-    omega arith
-
-pub group-smaller : goal.group-smaller
-group-smaller c =
-    let g = c.more.invariant.0 in
-    let o : c.more.i < length c.args.ahead.current.now = offered_below c.args.ahead.current.now c.args.ahead.other.now c.more.i c.loop-j.j g.their_bound c.if-not-is_offered.ensures in
-    let p = c.more.invariant.1 in
-    let q = c.loop-j.invariant.1 in
-    let b = g.their_bound in
-    omega arith
-
 pub group-preserved : goal.group-preserved
 group-preserved c =
     let cs = c.args.ahead.current.now in
     let os = c.args.ahead.other.now in
     let k = c.requires in
     grow_current cs os (our_run cs os k) (their_run cs os k) _ _ c.more.invariant.0 c.if-not-is_offered.ensures
-
-pub more-smaller : goal.more-smaller
-more-smaller c =
-    let g = c.more.invariant.0 in
-    let o : c.more.i < length c.args.ahead.current.now = offered_below c.args.ahead.current.now c.args.ahead.other.now c.more.i c.loop-j.j g.their_bound c.if-not-is_offered.ensures in
-    omega arith
 
 pub more-preserved : goal.more-preserved
 more-preserved c =
