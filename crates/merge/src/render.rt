@@ -72,6 +72,6 @@ pub fn render<T: ThreeSheets, S: Sink>(
         needed,
         capacity: capacity as u64,
     })?;
-    let (_, marked) = write_merge(three, mode, labels, table.current(), table.other(), sink);
+    let marked = write_merge(three, mode, labels, table.current(), table.other(), sink);
     Ok(verdict_of(mode, marked))
 }

@@ -25,11 +25,11 @@ pub fn measure<T: ThreeSheets>(
     other: &[Hunk],
     tally: &mut Tally,
 ) -> u32
-    requires hunks { Kept (T.ThreeSheets.sheets three.now) current.now other.now }
+    requires hunks { Kept (T.sheets three.now) current.now other.now }
     requires few { (length current.now ≤ max_hunks) × (length other.now ≤ max_hunks) }
     requires size { SizeFits mode }
     requires labels { LabelsFit (labels_in labels) }
-    ensures { result ≡ total (rendering mode (T.ThreeSheets.sheets three.now) (labels_in labels.entry) current.now other.now) }
+    ensures { result ≡ total (rendering mode (T.sheets three.now) (labels_in labels.entry) current.now other.now) }
 {
     let _ = tally.begin(usize::MAX);
     let _ = write_merge(three, mode, labels, current, other, tally);

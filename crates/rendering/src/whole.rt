@@ -1,7 +1,7 @@
 //! The whole rendering, cluster by cluster, into any sink.
 ghost use Rattle.std.specs.Prelude.{◌≡◌, ℕ, ◌+◌, ◌-◌, ◌<◌, ◌≤◌, Bool, true, false, cond, not, List, [], ◌∷◌, ◌++◌, length};
 ghost use Rattle.std.specs.List.{AllByRecursion};
-ghost use Rattle.writing.specs.States.{state, after, Room, Keeps};
+ghost use Rattle.writing.specs.States.{open_end, state, after, Room, Keeps, HasRoom, Wrote};
 ghost use Rattle.rules.specs.Contraction.{Readable};
 ghost use Rattle.rules.specs.Limits.{max_hunks, max_marker_size};
 ghost use Rattle.rules.specs.Groups.{clusters};
@@ -19,15 +19,14 @@ use hunks::list::HunkList;
 use reading::three::ThreeSheets;
 use rules::hunk::{Hunk, Side, Span};
 use rules::labels::Labels;
-use rules::limits::{MAX_FILLED, MAX_REMOVED};
 use rules::mode::Conflict;
 use sink::piece::Kind;
 use sink::sink::Sink;
-use writing::group::write_group;
-use writing::lines::{write_ancestor, write_hunks};
+use writing::desk::Desk;
+use writing::keep::Stretch;
+use writing::pen::Pen;
 
-/// Writes the next cluster of the walk, from the hunks that it takes of each side. Answers whether a line is open then, and
-/// whether the mode marks it.
+/// Writes the next cluster of the walk, from the hunks that it takes of each side. Answers whether the mode marks it.
 pub fn write_next<T: ThreeSheets, S: Sink>(
     three: &T,
     mode: Conflict,
@@ -36,36 +35,35 @@ pub fn write_next<T: ThreeSheets, S: Sink>(
     next: NextCluster,
     current: &[Hunk],
     other: &[Hunk],
-    ours: &mut HunkList<MAX_FILLED>,
-    theirs: &mut HunkList<MAX_FILLED>,
-    removed: &mut HunkList<MAX_REMOVED>,
-    sink: &mut S,
-    ajar: bool,
-) -> (bool, bool)
-    requires within { next.range.end ≤ length (T.ThreeSheets.sheets three.now).ancestor }
+    desk: &mut Desk,
+    pen: &mut Pen<'_, S>,
+) -> bool
+    requires within { next.range.end ≤ length (T.sheets three.now).ancestor }
     requires size { size_of mode ≤ max_marker_size }
     requires few { (length current.now ≤ max_hunks) × (length other.now ≤ max_hunks) }
-    requires ours { (AllByRecursion (Readable (T.ThreeSheets.sheets three.now)) current.now) × (AllByRecursion (Readable (T.ThreeSheets.sheets three.now)) (side_in next current.now)) }
-    requires theirs { (AllByRecursion (Readable (T.ThreeSheets.sheets three.now)) other.now) × (AllByRecursion (Readable (T.ThreeSheets.sheets three.now)) (side_in next other.now)) }
-    requires room { Room (state (S.Sink.value sink.old) (S.Sink.taken sink.old) (S.Sink.announced sink.old) ajar) (next_steps mode (T.ThreeSheets.sheets three.now) (labels_in labels) since next current.now other.now) }
-    ensures written { (state (S.Sink.value sink.new) (S.Sink.taken sink.new) (S.Sink.announced sink.new) result.0) ≡ after S.Sink.rule (state (S.Sink.value sink.old) (S.Sink.taken sink.old) (S.Sink.announced sink.old) ajar) (next_steps mode (T.ThreeSheets.sheets three.now) (labels_in labels.entry) since next current.now other.now) }
-    ensures kept { Keeps (S.Sink.fresh sink.old) (S.Sink.fresh sink.new) (S.Sink.capacity sink.old) (S.Sink.capacity sink.new) (S.Sink.taken sink.old) (S.Sink.taken sink.new) (S.Sink.rest sink.old) (S.Sink.rest sink.new) }
-    ensures marked { result.1 ≡ next_marked mode (T.ThreeSheets.sheets three.now) next current.now other.now }
+    requires ours { (AllByRecursion (Readable (T.sheets three.now)) current.now) × (AllByRecursion (Readable (T.sheets three.now)) (side_in next current.now)) }
+    requires theirs { (AllByRecursion (Readable (T.sheets three.now)) other.now) × (AllByRecursion (Readable (T.sheets three.now)) (side_in next other.now)) }
+    requires room { HasRoom S.Sink pen.old (next_steps mode (T.sheets three.now) (labels_in labels) since next current.now other.now) }
+    ensures wrote { Wrote S.Sink pen.old pen.new (next_steps mode (T.sheets three.now) (labels_in labels.entry) since next current.now other.now) }
+    ensures marked { result ≡ next_marked mode (T.sheets three.now) next current.now other.now }
 {
     if next.is_group {
-        fill_ancestor(current, next.range, ours);
-        fill_ancestor(other, next.range, theirs);
-        write_group(
-            three, mode, labels, since, next.range, next.lead, ours, theirs, removed, sink, ajar,
-        )
+        fill_ancestor(current, next.range, &mut desk.ours);
+        fill_ancestor(other, next.range, &mut desk.theirs);
+        let stretch = Stretch {
+            since,
+            range: next.range,
+        };
+        pen.group(three, mode, labels, stretch, next.lead, desk)
     } else {
-        let open = write_hunks(three, current, Kind::Common, sink, ajar);
-        (write_hunks(three, other, Kind::Common, sink, open), false)
+        pen.hunks(three, current, Kind::Common);
+        pen.hunks(three, other, Kind::Common);
+        false
     }
 }
 
-/// Writes the rendering of both sides' hunks: the ancestor's lines between the clusters, and each cluster. Answers whether a line
-/// is open at its end, and whether the mode marks a group.
+/// Writes the rendering of both sides' hunks: the ancestor's lines between the clusters, and each cluster. Answers whether the mode
+/// marks a group.
 pub fn write_merge<T: ThreeSheets, S: Sink>(
     three: &T,
     mode: Conflict,
@@ -73,22 +71,43 @@ pub fn write_merge<T: ThreeSheets, S: Sink>(
     current: &[Hunk],
     other: &[Hunk],
     sink: &mut S,
-) -> (bool, bool)
-    requires hunks { Kept (T.ThreeSheets.sheets three.now) current.now other.now }
+) -> bool
+    requires hunks { Kept (T.sheets three.now) current.now other.now }
     requires few { (length current.now ≤ max_hunks) × (length other.now ≤ max_hunks) }
     requires size { size_of mode ≤ max_marker_size }
-    requires room { Room (state (S.Sink.value sink.old) (S.Sink.taken sink.old) (S.Sink.announced sink.old) false) (steps_from mode (T.ThreeSheets.sheets three.now) (labels_in labels) 0 (clusters (walk current.now other.now))) }
-    ensures written { (state (S.Sink.value sink.new) (S.Sink.taken sink.new) (S.Sink.announced sink.new) result.0) ≡ after S.Sink.rule (state (S.Sink.value sink.old) (S.Sink.taken sink.old) (S.Sink.announced sink.old) false) (steps_from mode (T.ThreeSheets.sheets three.now) (labels_in labels.entry) 0 (clusters (walk current.now other.now))) }
-    ensures kept { Keeps (S.Sink.fresh sink.old) (S.Sink.fresh sink.new) (S.Sink.capacity sink.old) (S.Sink.capacity sink.new) (S.Sink.taken sink.old) (S.Sink.taken sink.new) (S.Sink.rest sink.old) (S.Sink.rest sink.new) }
-    ensures marked { result.1 ≡ any_marked mode (T.ThreeSheets.sheets three.now) (clusters (walk current.now other.now)) }
+    requires room { Room (state (S.value sink.old) (S.taken sink.old) (S.announced sink.old) false) (steps_from mode (T.sheets three.now) (labels_in labels) 0 (clusters (walk current.now other.now))) }
+    ensures written { (state (S.value sink.new) (S.taken sink.new) (S.announced sink.new) (open_end false (steps_from mode (T.sheets three.now) (labels_in labels.entry) 0 (clusters (walk current.now other.now))))) ≡ after S.rule (state (S.value sink.old) (S.taken sink.old) (S.announced sink.old) false) (steps_from mode (T.sheets three.now) (labels_in labels.entry) 0 (clusters (walk current.now other.now))) }
+    ensures kept { Keeps (S.fresh sink.old) (S.fresh sink.new) (S.capacity sink.old) (S.capacity sink.new) (S.taken sink.old) (S.taken sink.new) (S.rest sink.old) (S.rest sink.new) }
+    ensures marked { result ≡ any_marked mode (T.sheets three.now) (clusters (walk current.now other.now)) }
 {
-    let mut ours: HunkList<MAX_FILLED> = HunkList::new();
-    let mut theirs: HunkList<MAX_FILLED> = HunkList::new();
-    let mut removed: HunkList<MAX_REMOVED> = HunkList::new();
+    let mut pen = Pen::new(sink);
+    write_all(three, mode, labels, current, other, &mut pen)
+}
+
+/// Writes the rendering by a pen.
+fn write_all<T: ThreeSheets, S: Sink>(
+    three: &T,
+    mode: Conflict,
+    labels: Labels<'_>,
+    current: &[Hunk],
+    other: &[Hunk],
+    pen: &mut Pen<'_, S>,
+) -> bool
+    requires hunks { Kept (T.sheets three.now) current.now other.now }
+    requires few { (length current.now ≤ max_hunks) × (length other.now ≤ max_hunks) }
+    requires size { size_of mode ≤ max_marker_size }
+    requires room { HasRoom S.Sink pen.old (steps_from mode (T.sheets three.now) (labels_in labels) 0 (clusters (walk current.now other.now))) }
+    ensures wrote { Wrote S.Sink pen.old pen.new (steps_from mode (T.sheets three.now) (labels_in labels.entry) 0 (clusters (walk current.now other.now))) }
+    ensures marked { result ≡ any_marked mode (T.sheets three.now) (clusters (walk current.now other.now)) }
+{
+    let mut desk = Desk {
+        ours: HunkList::new(),
+        theirs: HunkList::new(),
+        removed: HunkList::new(),
+    };
     let mut currents = current;
     let mut others = other;
     let mut since = 0;
-    let mut open = false;
     let mut marked = false;
     while let Some(next) = next_cluster(currents, others) {
         let m = next.current;
@@ -98,8 +117,8 @@ pub fn write_merge<T: ThreeSheets, S: Sink>(
             start: since,
             end: range.start,
         };
-        let still = write_ancestor(three, ahead, sink, open);
-        let (ajar, found) = write_next(
+        pen.ancestor(three, ahead);
+        let found = write_next(
             three,
             mode,
             labels,
@@ -107,13 +126,9 @@ pub fn write_merge<T: ThreeSheets, S: Sink>(
             next,
             &currents[..m],
             &others[..n],
-            &mut ours,
-            &mut theirs,
-            &mut removed,
-            sink,
-            still,
+            &mut desk,
+            pen,
         );
-        open = ajar;
         marked = marked || found;
         since = range.end;
         currents = &currents[m..];
@@ -123,5 +138,6 @@ pub fn write_merge<T: ThreeSheets, S: Sink>(
         start: since,
         end: three.count_of(Side::Ancestor),
     };
-    (write_ancestor(three, behind, sink, open), marked)
+    pen.ancestor(three, behind);
+    marked
 }

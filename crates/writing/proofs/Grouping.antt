@@ -1,7 +1,6 @@
 -- The two sides of a group as a mode takes them.
-use Rattle.std.proofs.Common.{◌≡◌, ℕ, ◌≤◌, Bool, true, false, cond, List, [], ◌++◌, length, take, drop, sym, refl, ap, ◌∙◌, arith}
+use Rattle.std.proofs.Common.{◌≡◌, Bool, true, false, cond, List, [], refl, ap}
 use Rattle.std.specs.List.{AllByRecursion}
-use Rattle.std.proofs.lemmas.List.{take_at, drop_at, length-append}
 use Rattle.std.proofs.lemmas.Bool.{cond_both}
 use Rattle.rules.specs.declared.hunk.Hunk.{Hunk}
 use Rattle.rules.specs.declared.mode.ConflictStyle.{ConflictStyle}
@@ -15,14 +14,7 @@ use Rattle.rules.specs.Sides.{Sides, contracts, contracted_by, sides_in, whole_s
 use Rattle.rules.specs.Blocks.{keep_steps, blocked}
 use Rattle.rules.specs.Unions.{union_steps}
 use Rattle.contract.proofs.Contracting.{readables}
-use Rattle.writing.specs.Sides.{sides_of, contracted_lists, lists_in, lists_differ, GroupsTold}
-
--- All four lists can be read.
-pub record Readables (s : Sheets) (d : Sides) : Type 0 where
-  pub front : AllByRecursion (Readable s) d.front
-  pub left : AllByRecursion (Readable s) d.left
-  pub right : AllByRecursion (Readable s) d.right
-  pub back : AllByRecursion (Readable s) d.back
+use Rattle.writing.specs.Sides.{sides_of, Readables, contracted_lists, lists_in, lists_differ, GroupsTold}
 
 pub contracted_readable : (s : Sheets) (b : Bool) (l r : List Hunk) → AllByRecursion (Readable s) l → AllByRecursion (Readable s) r → Readables s (contracted_lists s b l r)
 contracted_readable s true l r p q = let c = readables s l r p q in record { front = c.front; left = c.lead; right = c.facing; back = c.back }
@@ -31,18 +23,6 @@ contracted_readable s false l r p q = let c = readables s r l q p in record { fr
 pub lists_readable : (style : ConflictStyle) (s : Sheets) (b : Bool) (l r : List Hunk) → AllByRecursion (Readable s) l → AllByRecursion (Readable s) r → Readables s (lists_in style s b l r)
 lists_readable style s b l r p q =
     cond_both (contracts style) (contracted_lists s b l r) (sides_of [] l r []) (Readables s) (λ e. contracted_readable s b l r p q) (λ e. record { front = tt; left = p; right = q; back = tt })
-
-pub split_room : (all f b : List Hunk) (n : ℕ) → all ≡ f ++ b → n ≡ length f → n ≤ length all
-split_room all f b n e z = let l = ap length e ∙ length-append f b in omega arith
-
-pub split_front : (all f b : List Hunk) (n : ℕ) → all ≡ f ++ b → n ≡ length f → take n all ≡ f
-split_front all f b n e z = ap (take n) e ∙ take_at f b n (sym z)
-
-pub split_back : (all f b : List Hunk) (n : ℕ) → all ≡ f ++ b → n ≡ length f → drop n all ≡ b
-split_back all f b n e z = ap (drop n) e ∙ drop_at f b n (sym z)
-
-pub same_sides : (f f' l l' r r' b b' : List Hunk) → f ≡ f' → l ≡ l' → r ≡ r' → b ≡ b' → sides_of f l r b ≡ sides_of f' l' r' b'
-same_sides f f' l l' r r' b b' p q u v = cc
 
 -- A group's own sides.
 contracted_own : (s : Sheets) (b : Bool) (k : Cluster) → contracted_lists s b (ours_of k) (theirs_of k) ≡ contracted_by s b k

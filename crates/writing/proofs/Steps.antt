@@ -10,9 +10,14 @@ use Rattle.rules.specs.Pieces.{Kind, Chunk, total, made}
 use Rattle.rules.specs.Steps.{Step, put, close, each, left_open, pieces_of}
 use Rattle.reading.specs.Reading.{no_hunk}
 use Rattle.reading.proofs.Reading.{lines_are}
-use Rattle.writing.specs.States.{open_end, State, state, after, Room, Keeps}
+use Rattle.sink.specs.declared.piece.Kind as code
+use Rattle.sink.specs.declared.piece.Piece.{Piece}
+use Rattle.sink.specs.declared.sink.Sink as sinks
+use Rattle.sink.specs.Pieces.{chunk, chunk_of, kind_of}
+use Rattle.writing.specs.declared.pen.Pen.{Pen}
+use Rattle.writing.specs.States.{open_end, State, state, after, Keeps, stands, HasRoom, Wrote}
 
-abbrev pub piece : Kind → Line → Chunk
+abbrev piece : Kind → Line → Chunk
 piece k x = record { kind = k; bytes = x }
 
 pieces_close : (o : Bool) (c : Chunk) (ps qs rs : List Chunk) → ps ≡ qs ++ rs → cond o (c ∷ ps) ps ≡ cond o (c ∷ qs) qs ++ rs
@@ -40,12 +45,8 @@ made_append rule v (c ∷ ps) qs = made_append rule (rule v c) ps qs
 same_state : {V : Type 0} (v v' : V) (t t' a : ℕ) (o o' : Bool) → v ≡ v' → t ≡ t' → o ≡ o' → state v t a o ≡ state v' t' a o'
 same_state v v' t t' a o o' p q r = cc
 
--- steps in two parts; a record, so that the parts are inferred
-pub record Parts (ss xs ys : List Step) : Type 0 where
-  pub is : ss ≡ xs ++ ys
-
 module _ {V : Type 0} (rule : V → Chunk → V) where
-  pub after_append : (s : State V) (xs ys : List Step) → after rule (after rule s xs) ys ≡ after rule s (xs ++ ys)
+  after_append : (s : State V) (xs ys : List Step) → after rule (after rule s xs) ys ≡ after rule s (xs ++ ys)
   after_append s xs ys =
       let e = pieces_append s.ajar xs ys in
       let ps = pieces_of s.ajar xs in
@@ -56,23 +57,77 @@ module _ {V : Type 0} (rule : V → Chunk → V) where
       t
       (sym (open_append s.ajar xs ys))
 
-  pub after_none : (s : State V) → after rule s [] ≡ s
+  after_none : (s : State V) → after rule s [] ≡ s
   after_none s = same_state _ _ _ _ _ _ _ refl (omega arith) refl
 
-  -- part of the steps is done
-  pub part_done : (s s' goal : State V) (ss xs ys : List Step) → after rule s ss ≡ goal → Parts ss xs ys → s' ≡ after rule s xs → after rule s' ys ≡ goal
-  part_done s s' goal ss xs ys e f h =
-      ap (λ (u : State V). after rule u ys) h ∙ (after_append s xs ys ∙ (ap (after rule s) (sym f.is) ∙ e))
+-- A writing that goes on keeps what both parts keep.
+keeps_on : {V R : Type 0} {f f' f'' : V} {c c' c'' t t' t'' : ℕ} {r r' r'' : ℕ → R} → Keeps f f' c c' t t' r r' → Keeps f' f'' c' c'' t' t'' r' r'' → Keeps f f'' c c'' t t'' r r''
+keeps_on p q = record {
+  fresh_same = q.fresh_same ∙ p.fresh_same;
+  capacity_same = q.capacity_same ∙ p.capacity_same;
+  forward = let a = p.forward in let b = q.forward in omega arith;
+  rest_same = λ k h. q.rest_same k h ∙ p.rest_same k (let b = q.forward in omega arith);
+}
 
-  pub all_done : (s goal : State V) (ss : List Step) → after rule s ss ≡ goal → ss ≡ [] → s ≡ goal
-  all_done s goal ss e f = sym (after_none s) ∙ (ap (after rule s) (sym f) ∙ e)
+-- Steps in two parts; a record, so that the parts are inferred.
+pub record Parts (ss xs ys : List Step) : Type 0 where
+  pub is : ss ≡ xs ++ ys
 
-  -- there is room for a part
-  pub part_room : (s goal : State V) (ss xs ys : List Step) → goal.taken ≤ goal.announced → after rule s ss ≡ goal → Parts ss xs ys → Room s xs
-  part_room s goal ss xs ys r e f =
-      let h : (after rule s (xs ++ ys)).taken ≤ (after rule s (xs ++ ys)).announced = subst (λ (g : State V). g.taken ≤ g.announced) (sym (ap (after rule s) (sym f.is) ∙ e)) r in
-      let u = ap total (pieces_append s.ajar xs ys) ∙ total_append (pieces_of s.ajar xs) (pieces_of (open_end s.ajar xs) ys) in
-      omega arith
+-- No step, and one writing after another.
+pub wrote_none : {S : Type 0} (g : sinks.Ghosts S) (p : Pen S) → Wrote g p p []
+wrote_none g p = record {
+  written = sym (after_none g.rule (stands g p));
+  kept = record { fresh_same = refl; capacity_same = refl; forward = omega arith; rest_same = λ k h. refl };
+  same_sink = refl;
+}
+
+module _ {S : Type 0} {g : sinks.Ghosts S} where
+  pub wrote_on : {p p' p'' : Pen S} {xs ys : List Step} → Wrote g p p' xs → Wrote g p' p'' ys → Wrote g p p'' (xs ++ ys)
+  wrote_on {p} {p'} {p''} {xs} {ys} a b = record {
+    written = b.written ∙ (ap (λ (s : State g.Value). after g.rule s ys) a.written ∙ after_append g.rule (stands g p) xs ys);
+    kept = keeps_on a.kept b.kept;
+    same_sink = b.same_sink ∙ a.same_sink;
+  }
+
+  -- Where steps have room, so have the first of them, and then the rest.
+  pub room_first : {p : Pen S} {xs : List Step} (ys : List Step) → HasRoom g p (xs ++ ys) → HasRoom g p xs
+  room_first {p} {xs} ys h = record {
+    room =
+        let r = h.room in
+        let u = ap total (pieces_append p.ajar xs ys) ∙ total_append (pieces_of p.ajar xs) (pieces_of (open_end p.ajar xs) ys) in
+        omega arith;
+  }
+
+  pub room_rest : {p p' : Pen S} {xs ys : List Step} → HasRoom g p (xs ++ ys) → Wrote g p p' xs → HasRoom g p' ys
+  room_rest {p} {p'} {xs} {ys} h w = record {
+    room =
+        let r = h.room in
+        let e : after g.rule (stands g p') ys ≡ after g.rule (stands g p) (xs ++ ys) = ap (λ (s : State g.Value). after g.rule s ys) w.written ∙ after_append g.rule (stands g p) xs ys in
+        let t = ap (λ (s : State g.Value). s.taken) e in
+        let a = ap (λ (s : State g.Value). s.announced) w.written in
+        omega arith;
+  }
+
+-- A writing under way: what is left of the steps has room, and once it is written, all are.
+pub record UnderWay {S : Type 0} (g : sinks.Ghosts S) (p : Pen S) (ss : List Step) (p' : Pen S) (rest : List Step) : Type 0 where
+  pub room : HasRoom g p' rest
+  pub whole : (p'' : Pen S) → Wrote g p' p'' rest → Wrote g p p'' ss
+
+module _ {S : Type 0} {g : sinks.Ghosts S} where
+  pub begun : {p : Pen S} {ss : List Step} → HasRoom g p ss → UnderWay g p ss p ss
+  begun h = record { room = h; whole = λ q w. w }
+
+  pub part_room : {p p' : Pen S} {ss rest xs ys : List Step} → UnderWay g p ss p' rest → Parts rest xs ys → HasRoom g p' xs
+  part_room {p} {p'} {ss} {rest} {xs} {ys} u e = room_first ys (subst (HasRoom g p') e.is u.room)
+
+  pub part_done : {p p' p'' : Pen S} {ss rest xs ys : List Step} → UnderWay g p ss p' rest → Parts rest xs ys → Wrote g p' p'' xs → UnderWay g p ss p'' ys
+  part_done {p} {p'} {p''} {ss} {rest} {xs} {ys} u e w = record {
+    room = room_rest (subst (HasRoom g p') e.is u.room) w;
+    whole = λ q v. u.whole q (subst (Wrote g p' q) (sym e.is) (wrote_on w v));
+  }
+
+  pub all_done : {p p' : Pen S} {ss rest : List Step} → UnderWay g p ss p' rest → rest ≡ [] → Wrote g p p' ss
+  all_done {p} {p'} {ss} {rest} u e = u.whole p' (subst (Wrote g p' p') (sym e) (wrote_none g p'))
 
 pub each_append : (k : Kind) (xs ys : List Line) → each k (xs ++ ys) ≡ each k xs ++ each k ys
 each_append k [] ys = refl
@@ -86,12 +141,15 @@ between_more ls n to lt le =
 pub between_done : (ls : List Line) (n to : ℕ) → to ≤ n → between ls n to ≡ []
 between_done ls n to le = ap (λ m. take m (drop n ls)) (let q : to - n ≡ 0 = omega arith in q)
 
-pub line_step : (k : Kind) (ls : List Line) (n to : ℕ) (c : Chunk) → n < to → to ≤ length ls → c ≡ piece k (get_or ls n []) → Parts (each k (between ls n to)) (put c ∷ []) (each k (between ls (n + 1) to))
-line_step k ls n to c lt le e = record {
+-- A line of a range is the first piece of what is left of it.
+pub line_step : (k : code.Kind) (ls : List Line) (n to : ℕ) (p : Piece) (line : Line) → n < to → to ≤ length ls → chunk p ≡ chunk_of k line → line ≡ get_or ls n []
+    → Parts (each (kind_of k) (between ls n to)) (put (chunk p) ∷ []) (each (kind_of k) (between ls (n + 1) to))
+line_step k ls n to p line lt le e f = record {
   is =
-      ap (each k) (between_more ls n to lt le) ∙ ap (λ (x : Chunk). put x ∷ each k (between ls (n + 1) to)) (sym e);
+      ap (each (kind_of k)) (between_more ls n to lt le) ∙ ap (λ (x : Chunk). put x ∷ each (kind_of k) (between ls (n + 1) to)) (sym (e ∙ ap (chunk_of k) f));
 }
 
+-- A hunk's lines come first of those of the hunks left.
 pub hunk_step : (k : Kind) (s : Sheets) (hs : List Hunk) (i : ℕ) (r : Span) → i < length hs → r ≡ read_range (get_or hs i no_hunk).side (get_or hs i no_hunk)
     → Parts (each k (side_lines s (drop i hs))) (each k (between (sheet_of s (get_or hs i no_hunk).side) r.start r.end)) (each k (side_lines s (drop (i + 1) hs)))
 hunk_step k s hs i r lt e =
@@ -99,16 +157,3 @@ hunk_step k s hs i r lt e =
     let m : side_lines s (drop i hs) ≡ hunk_lines s h ++ side_lines s (drop (i + 1) hs) = at_drop_more (side_lines s) hs i no_hunk lt in
     let b : hunk_lines s h ≡ between (sheet_of s h.side) r.start r.end = lines_are h.side s h ∙ ap (λ (x : Span). between (sheet_of s h.side) x.start x.end) (sym e) in
     record { is = ap (each k) (m ∙ ap (λ (v : List Line). v ++ side_lines s (drop (i + 1) hs)) b) ∙ each_append k (between (sheet_of s h.side) r.start r.end) (side_lines s (drop (i + 1) hs)) }
-
--- A writing that goes on keeps what both parts keep.
-module _ {V : Type 0} {R : Type 0} where
-  pub keeps_none : (f : V) (c t : ℕ) (r : ℕ → R) → Keeps f f c c t t r r
-  keeps_none f c t r = record { fresh_same = refl; capacity_same = refl; forward = omega arith; rest_same = λ k h. refl }
-
-  pub keeps_on : {f f' f'' : V} {c c' c'' t t' t'' : ℕ} {r r' r'' : ℕ → R} → Keeps f f' c c' t t' r r' → Keeps f' f'' c' c'' t' t'' r' r'' → Keeps f f'' c c'' t t'' r r''
-  keeps_on p q = record {
-    fresh_same = q.fresh_same ∙ p.fresh_same;
-    capacity_same = q.capacity_same ∙ p.capacity_same;
-    forward = let a = p.forward in let b = q.forward in omega arith;
-    rest_same = λ k h. q.rest_same k h ∙ p.rest_same k (let b = q.forward in omega arith);
-  }

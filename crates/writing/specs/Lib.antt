@@ -1,3 +1,4 @@
 pub mod States
 pub mod Marks
 pub mod Sides
+pub mod Desks

@@ -1,30 +1,35 @@
 ghost use Rattle.std.specs.Prelude.{◌≡◌, ℕ, ◌≤◌, length};
-ghost use Rattle.std.specs.List.{AllByRecursion};
-ghost use Rattle.rules.specs.Limits.{max_marker_size, max_filled};
-ghost use Rattle.rules.specs.Contraction.{Readable};
+ghost use Rattle.rules.specs.Limits.{max_filled};
 ghost use Rattle.rules.specs.Blocks.{before_block, marker_ending, blocked, keep_steps};
 ghost use Rattle.writing.specs.Marks.{labels_in};
-ghost use Rattle.writing.specs.Sides.{sides_of};
-ghost use Rattle.writing.specs.States.{state, after, Room, Keeps};
+ghost use Rattle.writing.specs.Sides.{Readables, lists_lent};
+ghost use Rattle.writing.specs.States.{HasRoom, Wrote};
 
-use crate::block::write_kept;
-use crate::lines::write_hunks;
+use crate::marks::Marks;
+use crate::pen::Pen;
+use crate::sides::Sides;
 use reading::ending::{detect_line_ending, ending_before};
 use reading::three::ThreeSheets;
 use rules::ending::Ending;
 use rules::hunk::{Hunk, Side, Span};
-use rules::labels::Labels;
-use rules::mode::ConflictStyle;
 use sink::piece::Kind;
 use sink::sink::Sink;
 
+/// Where a group stands in the ancestor: its range, and how far the lines ahead of it were written by the last cluster.
+#[derive(Clone, Copy)]
+pub struct Stretch {
+    pub since: u32,
+    pub range: Span,
+}
+
 /// The line ending that stands ahead of a block.
-fn ending_ahead<T: ThreeSheets>(three: &T, since: u32, from: u32, front: &[Hunk]) -> Option<Ending>
-    ensures { result ≡ before_block (T.ThreeSheets.sheets three.now) since from front.now }
+fn ending_ahead<T: ThreeSheets>(three: &T, stretch: Stretch, front: &[Hunk]) -> Option<Ending>
+    ensures { result ≡ before_block (T.sheets three.now) stretch.since stretch.range.start front.now }
 {
-    if front.len() > 0 {
+    let from = stretch.range.start;
+    if !front.is_empty() {
         detect_line_ending(three, front)
-    } else if since < from {
+    } else if stretch.since < from {
         ending_before(three, Side::Ancestor, from)
     } else {
         None
@@ -32,56 +37,39 @@ fn ending_ahead<T: ThreeSheets>(three: &T, since: u32, from: u32, front: &[Hunk]
 }
 
 /// The line ending of a block's markers: the one ahead of it, else that of ours, else newline.
-fn marker_ending<T: ThreeSheets>(
-    three: &T,
-    since: u32,
-    from: u32,
-    front: &[Hunk],
-    left: &[Hunk],
-) -> Ending
-    ensures { result ≡ marker_ending (T.ThreeSheets.sheets three.now) since from front.now left.now }
+fn marker_ending<T: ThreeSheets>(three: &T, stretch: Stretch, sides: Sides<'_>) -> Ending
+    ensures { result ≡ marker_ending (T.sheets three.now) stretch.since stretch.range.start sides.entry.front.now sides.entry.left.now }
 {
-    if let Some(ending) = ending_ahead(three, since, from, front) {
+    // Stays: the project fixes these fallbacks, taken apart one after another.
+    if let Some(ending) = ending_ahead(three, stretch, sides.front) {
         ending
-    } else if let Some(ending) = detect_line_ending(three, left) {
+    } else if let Some(ending) = detect_line_ending(three, sides.left) {
         ending
     } else {
         Ending::Newline
     }
 }
 
-/// Writes a group under Keep. Answers whether a line is open then, and whether a block was written.
-pub fn write_keep<T: ThreeSheets, S: Sink>(
-    three: &T,
-    style: ConflictStyle,
-    size: u32,
-    labels: Labels<'_>,
-    since: u32,
-    range: Span,
-    front: &[Hunk],
-    left: &[Hunk],
-    right: &[Hunk],
-    back: &[Hunk],
-    sink: &mut S,
-    ajar: bool,
-) -> (bool, bool)
-    requires within { range.end ≤ length (T.ThreeSheets.sheets three.now).ancestor }
-    requires size { size ≤ max_marker_size }
-    requires few { (length left.now ≤ max_filled) × (length right.now ≤ max_filled) }
-    requires ahead { AllByRecursion (Readable (T.ThreeSheets.sheets three.now)) front.now }
-    requires ours { AllByRecursion (Readable (T.ThreeSheets.sheets three.now)) left.now }
-    requires theirs { AllByRecursion (Readable (T.ThreeSheets.sheets three.now)) right.now }
-    requires behind { AllByRecursion (Readable (T.ThreeSheets.sheets three.now)) back.now }
-    requires room { Room (state (S.Sink.value sink.old) (S.Sink.taken sink.old) (S.Sink.announced sink.old) ajar) (keep_steps style (T.ThreeSheets.sheets three.now) size (labels_in labels) since range.start range.end (sides_of front.now left.now right.now back.now)) }
-    ensures written { (state (S.Sink.value sink.new) (S.Sink.taken sink.new) (S.Sink.announced sink.new) result.0) ≡ after S.Sink.rule (state (S.Sink.value sink.old) (S.Sink.taken sink.old) (S.Sink.announced sink.old) ajar) (keep_steps style (T.ThreeSheets.sheets three.now) size (labels_in labels.entry) since range.start range.end (sides_of front.now left.now right.now back.now)) }
-    ensures kept { Keeps (S.Sink.fresh sink.old) (S.Sink.fresh sink.new) (S.Sink.capacity sink.old) (S.Sink.capacity sink.new) (S.Sink.taken sink.old) (S.Sink.taken sink.new) (S.Sink.rest sink.old) (S.Sink.rest sink.new) }
-    ensures block { result.1 ≡ blocked style (T.ThreeSheets.sheets three.now) left.now right.now }
-{
-    let a1 = write_hunks(three, front, Kind::Common, sink, ajar);
-    let ending = marker_ending(three, since, range.start, front, left);
-    let (a2, block) = write_kept(
-        three, style, size, labels, ending, range, left, right, sink, a1,
-    );
-    let a3 = write_hunks(three, back, Kind::Common, sink, a2);
-    (a3, block)
+impl<'a, S: Sink> Pen<'a, S> {
+    /// Writes a group under Keep. Answers whether a block was written.
+    pub fn keep<T: ThreeSheets>(
+        &mut self,
+        three: &T,
+        marks: Marks<'_>,
+        stretch: Stretch,
+        sides: Sides<'_>,
+    ) -> bool
+        requires within { stretch.range.end ≤ length (T.sheets three.now).ancestor }
+        requires few { (length sides.left.now ≤ max_filled) × (length sides.right.now ≤ max_filled) }
+        requires readable { Readables (T.sheets three.now) (lists_lent sides) }
+        requires room { HasRoom S.Sink self.old (keep_steps marks.style (T.sheets three.now) marks.size (labels_in marks.labels) stretch.since stretch.range.start stretch.range.end (lists_lent sides)) }
+        ensures wrote { Wrote S.Sink self.old self.new (keep_steps marks.entry.style (T.sheets three.now) marks.entry.size (labels_in marks.entry.labels) stretch.since stretch.range.start stretch.range.end (lists_lent sides.entry)) }
+        ensures block { result ≡ blocked marks.entry.style (T.sheets three.now) sides.entry.left.now sides.entry.right.now }
+    {
+        self.hunks(three, sides.front, Kind::Common);
+        let ending = marker_ending(three, stretch, sides);
+        let block = self.kept(three, marks, ending, stretch.range, sides);
+        self.hunks(three, sides.back, Kind::Common);
+        block
+    }
 }

@@ -2,10 +2,12 @@
 #![tactic(auto)]
 
 pub mod block;
+pub mod desk;
 pub mod ending;
 pub mod group;
 pub mod keep;
-pub mod lines;
 pub mod mark;
-pub mod piece;
+pub mod marks;
+pub mod pen;
+pub mod sides;
 pub mod union;

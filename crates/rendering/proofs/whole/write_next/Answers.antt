@@ -1,17 +1,16 @@
-use Rattle.std.proofs.Common.{◌≡◌, ℕ, Bool, true, false, cond, List, [], ◌++◌, sym, refl, ap, ◌∙◌, ap₂}
-use Rattle.std.proofs.lemmas.List.{append-nil}
+use Rattle.std.proofs.Common.{◌≡◌, ℕ, Bool, true, false, cond, List, ◌++◌, sym, ap, ◌∙◌, ap₂, subst}
 use Rattle.rules.specs.declared.hunk.Hunk.{Hunk}
 use Rattle.rules.specs.declared.mode.Conflict as modes
 use Rattle.rules.specs.Hunks.{Sheets, side_lines}
 use Rattle.rules.specs.Markers.{Labels}
 use Rattle.rules.specs.Pieces.{common}
-use Rattle.rules.specs.Steps.{Step, each}
+use Rattle.rules.specs.Steps.{each}
 use Rattle.rules.specs.Walk.{is_current}
 use Rattle.groups.specs.declared.next.NextCluster.{NextCluster}
 use Rattle.writing.specs.Marks.{labels_in}
 use Rattle.writing.specs.Sides.{lists_steps, lists_marked}
-use Rattle.writing.specs.States.{after, state}
-use Rattle.writing.proofs.Steps.{Parts, part_done, part_room, keeps_on}
+use Rattle.writing.specs.States.{HasRoom, Wrote}
+use Rattle.writing.proofs.Steps.{Parts, room_first, room_rest, wrote_on}
 use Rattle.rendering.specs.Whole.{next_steps, next_marked, side_in}
 use Rattle.rendering.proofs.whole.write_next.Goals as goal
 
@@ -19,9 +18,6 @@ use Rattle.rendering.proofs.whole.write_next.Goals as goal
 lone_parts : (m : modes.Conflict) (s : Sheets) (l : Labels) (since : ℕ) (x : NextCluster) (cs os : List Hunk) → x.is_group ≡ false
     → Parts (next_steps m s l since x cs os) (each common (side_lines s cs)) (each common (side_lines s os))
 lone_parts m s l since x cs os e = record { is = ap (λ (b : Bool). cond b (lists_steps m s l since x.range.start x.range.end (is_current x.lead) (side_in x cs) (side_in x os)) (each common (side_lines s cs) ++ each common (side_lines s os))) e }
-
-all_parts : (ss : List Step) → Parts ss ss []
-all_parts ss = record { is = sym (append-nil ss) }
 
 -- a group: its sides are those that were filled
 group_steps_are : (m : modes.Conflict) (s : Sheets) (l : Labels) (since : ℕ) (x : NextCluster) (cs os us vs : List Hunk) → x.is_group ≡ true → us ≡ side_in x cs → vs ≡ side_in x os
@@ -36,30 +32,22 @@ group_marked_is m s x cs os us vs e p q =
     ap₂ (λ (u v : List Hunk). lists_marked m s (is_current x.lead) u v) p q ∙
     sym (ap (λ (b : Bool). cond b (lists_marked m s (is_current x.lead) (side_in x cs) (side_in x os)) false) e)
 
-pub write_hunks-open-requires : goal.write_hunks-open-requires
-write_hunks-open-requires g c =
-    let s = g.T.ThreeSheets.sheets c.args.three.now in
-    record {
-      readable = c.requires.ours.0;
-      room = part_room g.S.Sink.rule (state (g.S.Sink.value c.args.sink.now) (g.S.Sink.taken c.args.sink.now) (g.S.Sink.announced c.args.sink.now) c.args.ajar) _ _ _ _ c.requires.room refl (lone_parts c.args.mode s (labels_in c.args.labels) c.args.since c.args.next c.args.current.now c.args.other.now c.if-next.false);
-    }
+pub hunks-requires : goal.hunks-requires
+hunks-requires g c =
+    let e = lone_parts c.args.mode (g.T.ThreeSheets.sheets c.args.three.now) (labels_in c.args.labels) c.args.since c.args.next c.args.current.now c.args.other.now c.if-next.false in
+    record { readable = c.requires.ours.0; room = room_first _ (subst (HasRoom g.S.Sink c.args.pen.now) e.is c.requires.room) }
 
-pub write_hunks-requires : goal.write_hunks-requires
-write_hunks-requires g c =
-    let s = g.T.ThreeSheets.sheets c.args.three.now in
-    let e = lone_parts c.args.mode s (labels_in c.args.labels) c.args.since c.args.next c.args.current.now c.args.other.now c.if-next.false in
-    record {
-      readable = c.requires.theirs.0;
-      room = part_room g.S.Sink.rule _ _ _ _ _ c.requires.room (part_done g.S.Sink.rule (state (g.S.Sink.value c.args.sink.now) (g.S.Sink.taken c.args.sink.now) (g.S.Sink.announced c.args.sink.now) c.args.ajar) _ _ _ _ _ refl e c.write_hunks-open.ensures.written) (all_parts (each common (side_lines s c.args.other.now)));
-    }
+pub hunks-requires-else-next : goal.hunks-requires-else-next
+hunks-requires-else-next g c =
+    let e = lone_parts c.args.mode (g.T.ThreeSheets.sheets c.args.three.now) (labels_in c.args.labels) c.args.since c.args.next c.args.current.now c.args.other.now c.if-next.false in
+    record { readable = c.requires.theirs.0; room = room_rest (subst (HasRoom g.S.Sink c.args.pen.now) e.is c.requires.room) c.hunks.ensures }
 
 pub returns-else-next : goal.returns-else-next
 returns-else-next g c =
     let s = g.T.ThreeSheets.sheets c.args.three.now in
     let e = lone_parts c.args.mode s (labels_in c.args.labels) c.args.since c.args.next c.args.current.now c.args.other.now c.if-next.false in
     record {
-      written = c.write_hunks.ensures.written ∙ part_done g.S.Sink.rule (state (g.S.Sink.value c.args.sink.now) (g.S.Sink.taken c.args.sink.now) (g.S.Sink.announced c.args.sink.now) c.args.ajar) _ _ _ _ _ refl e c.write_hunks-open.ensures.written;
-      kept = keeps_on c.write_hunks-open.ensures.kept c.write_hunks.ensures.kept;
+      wrote = subst (Wrote g.S.Sink c.args.pen.now _) (sym e.is) (wrote_on c.hunks.ensures c.hunks-else-next.ensures);
       marked = sym (ap (λ (b : Bool). cond b (lists_marked c.args.mode s (is_current c.args.next.lead) (side_in c.args.next c.args.current.now) (side_in c.args.next c.args.other.now)) false) c.if-next.false);
     }
 
@@ -69,7 +57,6 @@ returns-then-next g c =
     let p = c.fill_ancestor.ensures in
     let q = c.fill_ancestor-then-next.ensures in
     record {
-      written = c.write_group.ensures.written ∙ ap (after g.S.Sink.rule _) (group_steps_are c.args.mode s (labels_in c.args.labels) c.args.since c.args.next c.args.current.now c.args.other.now _ _ c.if-next.true p q);
-      kept = c.write_group.ensures.kept;
-      marked = c.write_group.ensures.marked ∙ group_marked_is c.args.mode s c.args.next c.args.current.now c.args.other.now _ _ c.if-next.true p q;
+      wrote = subst (Wrote g.S.Sink c.args.pen.now _) (group_steps_are c.args.mode s (labels_in c.args.labels) c.args.since c.args.next c.args.current.now c.args.other.now _ _ c.if-next.true p q) c.group.ensures.wrote;
+      marked = c.group.ensures.marked ∙ group_marked_is c.args.mode s c.args.next c.args.current.now c.args.other.now _ _ c.if-next.true p q;
     }

@@ -1,0 +1,88 @@
+ghost use Rattle.std.specs.Prelude.{◌≡◌, ℕ, ◌≤◌, length};
+ghost use Rattle.std.specs.List.{AllByRecursion};
+ghost use Rattle.rules.specs.Limits.{max_filled};
+ghost use Rattle.rules.specs.Walk.{is_current};
+ghost use Rattle.rules.specs.Contraction.{Readable};
+ghost use Rattle.writing.specs.Sides.{contracted_lists, lists_differ, lists_in, lists_lent};
+ghost use Rattle.writing.specs.Desks.{Legible, split_lists};
+
+use crate::sides::Sides;
+use contract::zealous::zealously_contract_hunks;
+use hunks::list::HunkList;
+use reading::shared::hunks_differ;
+use reading::three::ThreeSheets;
+use rules::hunk::Side;
+use rules::limits::{MAX_FILLED, MAX_REMOVED};
+use rules::mode::ConflictStyle;
+
+/// The lists that a group is worked in: its two sides, and what contraction removes of the side that leads.
+#[derive(Drop)]
+pub struct Desk {
+    pub ours: HunkList<MAX_FILLED>,
+    pub theirs: HunkList<MAX_FILLED>,
+    pub removed: HunkList<MAX_REMOVED>,
+}
+
+impl Desk {
+    /// Contracts the two sides. Answers how many of the removed hunks stand in front.
+    pub(crate) fn contract<T: ThreeSheets>(&mut self, three: &T, lead: Side) -> usize
+        requires { Legible (T.sheets three.now) self.old }
+        ensures count { result ≤ length self.new.removed }
+        ensures lists { split_lists self.new result ≡ contracted_lists (T.sheets three.now) (is_current lead) self.old.ours self.old.theirs }
+    {
+        let Desk {
+            ours,
+            theirs,
+            removed,
+        } = self;
+        // Stays: two calls, since the borrow checker does not cover a pair of `&mut` that a match chooses.
+        let (_, in_front, _) = match lead {
+            Side::Current => zealously_contract_hunks(three, ours, theirs, removed),
+            Side::Other | Side::Ancestor => zealously_contract_hunks(three, theirs, ours, removed),
+        };
+        in_front
+    }
+
+    /// Contracts the two sides, if the style does. Answers how many of the removed hunks stand in front.
+    pub(crate) fn settle<T: ThreeSheets>(
+        &mut self,
+        three: &T,
+        style: ConflictStyle,
+        lead: Side,
+    ) -> usize
+        requires { Legible (T.sheets three.now) self.old }
+        ensures count { result ≤ length self.new.removed }
+        ensures lists { split_lists self.new result ≡ lists_in style (T.sheets three.now) (is_current lead) self.old.ours self.old.theirs }
+    {
+        match style {
+            ConflictStyle::Diff3 => {
+                self.removed.truncate(0);
+                0
+            }
+            ConflictStyle::Merge | ConflictStyle::ZealousDiff3 => self.contract(three, lead),
+        }
+    }
+
+    /// The two sides, so many of the removed hunks in front.
+    pub(crate) fn sides(&self, in_front: usize) -> Sides<'_>
+        requires { in_front ≤ length self.now.removed }
+        ensures lists { lists_lent result ≡ split_lists self.now in_front }
+        ensures few { (length result.left.now ≤ max_filled) × (length result.right.now ≤ max_filled) }
+    {
+        let (front, back) = self.removed.as_slice().split_at(in_front);
+        Sides {
+            front,
+            left: self.ours.as_slice(),
+            right: self.theirs.as_slice(),
+            back,
+        }
+    }
+
+    /// Whether the lines of the two sides differ.
+    pub(crate) fn differ<T: ThreeSheets>(&self, three: &T) -> bool
+        requires { Legible (T.sheets three.now) self.now }
+        ensures { result ≡ lists_differ (T.sheets three.now) self.now.ours self.now.theirs }
+    {
+        hunks_differ(three, self.ours.as_slice(), self.theirs.as_slice())
+    }
+}

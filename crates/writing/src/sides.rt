@@ -1,0 +1,29 @@
+ghost use Rattle.std.specs.Prelude.{◌≡◌};
+ghost use Rattle.std.specs.List.{AllByRecursion};
+ghost use Rattle.rules.specs.Contraction.{Readable};
+ghost use Rattle.rules.specs.Sides.{line_left};
+
+use reading::hunk::contains_lines;
+use reading::three::ThreeSheets;
+use rules::hunk::Hunk;
+
+/// The two sides of a group: what left them ahead, what is left of ours and of theirs, and what left them behind.
+#[derive(Clone, Copy)]
+pub struct Sides<'a> {
+    pub front: &'a [Hunk],
+    pub left: &'a [Hunk],
+    pub right: &'a [Hunk],
+    pub back: &'a [Hunk],
+}
+
+impl Sides<'_> {
+    /// Whether either side has a line left.
+    #[tactic(auto, using(reading::proofs::Counting::lines_there))]
+    pub fn any_line_left<T: ThreeSheets>(self, three: &T) -> bool
+        requires ours { AllByRecursion (Readable (T.sheets three.now)) self.left.now }
+        requires theirs { AllByRecursion (Readable (T.sheets three.now)) self.right.now }
+        ensures { result ≡ line_left (T.sheets three.now) self.entry.left.now self.entry.right.now }
+    {
+        contains_lines(self.left) || contains_lines(self.right)
+    }
+}
