@@ -1,5 +1,6 @@
 ghost use Rattle.std.specs.Prelude.{ℕ, List, [], length};
-ghost use Rattle.sink.specs.PageState.{page_value, page_rule, page_rest};
+ghost use Rattle.rules.specs.Pieces.{more_bytes};
+ghost use Rattle.sink.specs.PageState.{page_value, page_rest};
 
 use crate::page::Page;
 use crate::piece::Piece;
@@ -13,7 +14,7 @@ impl<'a> Sink for Page<'a> {
 
     ghost fresh = { λ _. [] };
 
-    ghost rule = { page_rule };
+    ghost rule = { more_bytes };
 
     ghost taken = { λ s. s.meter.taken };
 
