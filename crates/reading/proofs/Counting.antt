@@ -14,7 +14,7 @@ use Rattle.rules.specs.Limits.{max_filled}
 use Rattle.reading.specs.Three.{AllFormed}
 use Rattle.rules.specs.Contraction.{Readable}
 use Rattle.reading.specs.Reading.{line_count, any_lines}
-use Rattle.reading.proofs.Reading.{whole, few_lines}
+use Rattle.reading.proofs.Reading.{whole, lines_fit}
 
 pub counted : (s : Sheets) (hs : List Hunk) → AllByRecursion (Readable s) hs → length (side_lines s hs) ≡ line_count hs
 counted s [] r = refl
@@ -23,7 +23,7 @@ counted s (h ∷ hs) r = length-append (hunk_lines s h) (side_lines s hs) ∙ (a
 pub few_counted : (s : Sheets) → AllFormed s → (hs : List Hunk) → AllByRecursion (Readable s) hs → length hs ≤ max_filled → line_count hs < 4294967296
 few_counted s f hs r le =
     let e = counted s hs r in
-    let b = few_lines s f hs r in
+    let b = lines_fit s f hs r le in
     omega arith
 
 -- two lists are the same where all lines of both are shared

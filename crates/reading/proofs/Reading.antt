@@ -8,7 +8,7 @@ use Rattle.rules.specs.declared.hunk.Side.{Side}
 use Rattle.rules.specs.declared.hunk.Side.TheVariants.{Current, Other, Ancestor}
 use Rattle.rules.specs.declared.hunk.Hunk.{Hunk}
 use Rattle.rules.specs.Contraction.{read_range, hunk_size}
-use Rattle.rules.specs.Limits.{max_lines}
+use Rattle.rules.specs.Limits.{max_lines, max_filled}
 use Rattle.rules.specs.Hunks.{Sheets, hunk_lines, lines_by, side_lines, sheet_of}
 use Rattle.rules.specs.Lines.{Line, between}
 use Rattle.rules.specs.Texts.{nth_line}
@@ -48,3 +48,7 @@ few_lines s f (h ∷ hs) r =
     let i = few_lines s f hs r.1 in
     let le : (read_range h.side h).end ≤ length (sheet_of s h.side) = r.0 in
     simp length-append (omega arith)
+
+-- so their number fits 32 bits
+pub lines_fit : (s : Sheets) → AllFormed s → (hs : List Hunk) → AllByRecursion (Readable s) hs → length hs ≤ max_filled → length (side_lines s hs) ≤ 4294967295
+lines_fit s f hs r le = let b = few_lines s f hs r in omega arith

@@ -26,6 +26,7 @@ fn count_alike<'a, I: Iterator<Item = &'a [u8]>>(ours: I, theirs: I) -> u32
         .count() as u32
 }
 
+// Stays: the sheets and both lists are three parameters of three functions, since contraction cuts the lists between the calls.
 /// How many leading lines two lists of hunks have in common: a cursor goes forward over each.
 pub fn shared_front<T: ThreeSheets>(three: &T, a: &[Hunk], b: &[Hunk]) -> u32
     requires few { length a.now ≤ max_filled }

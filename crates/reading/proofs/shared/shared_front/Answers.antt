@@ -2,15 +2,15 @@ use Rattle.std.proofs.Common.{rules, ◌≤◌, length, ap, arith}
 use Rattle.std.proofs.lemmas.Iterator.Consumers.{YieldsList-from_first}
 use Rattle.rules.specs.Hunks.{side_lines}
 use Rattle.reading.specs.Cursors.{lines_ahead}
-use Rattle.reading.proofs.Reading.{few_lines}
+use Rattle.reading.proofs.Reading.{lines_fit}
 use Rattle.reading.proofs.shared.shared_front.Goals as goal
 
 pub count_alike-requires : goal.count_alike-requires
 count_alike-requires g c κs =
     let s = g.T.ThreeSheets.sheets c.args.three.now in
-    let n = few_lines s (g.T.ThreeSheets.formed c.args.three.now) c.args.a.now c.requires.ours in
+    let fit = lines_fit s (g.T.ThreeSheets.formed c.args.three.now) c.args.a.now c.requires.ours c.requires.few in
     let e = ap length c.of.ensures.ahead in
-    let few : length (lines_ahead (g.T.ThreeSheets.sheets c.of.result.three.now) c.of.result) ≤ 4294967295 = omega (arith, c.requires.few) in
+    let few : length (lines_ahead (g.T.ThreeSheets.sheets c.of.result.three.now) c.of.result) ≤ 4294967295 = omega arith in
     search rules
 
 pub returns : goal.returns
