@@ -12,8 +12,9 @@ use Rattle.reading.specs.Reading.{no_hunk}
 use Rattle.reading.proofs.Reading.{lines_are}
 use Rattle.sink.specs.declared.piece.Kind as code
 use Rattle.sink.specs.declared.piece.Piece.{Piece}
-use Rattle.sink.specs.declared.sink.Sink as sinks
+use Rattle.sink.specs.declared.sink.Sink.{Ghosts}
 use Rattle.sink.specs.Pieces.{chunk, chunk_of, kind_of}
+use Rattle.sink.proofs.Folds.{made_++}
 use Rattle.writing.specs.declared.pen.Pen.{Pen}
 use Rattle.writing.specs.States.{open_end, State, state, after, Keeps, stands, HasRoom, Wrote}
 
@@ -38,10 +39,6 @@ total_append : (ps qs : List Chunk) → total (ps ++ qs) ≡ total ps + total qs
 total_append [] qs = omega arith
 total_append (c ∷ ps) qs = let i = total_append ps qs in omega arith
 
-made_append : {V : Type 0} (rule : V → Chunk → V) (v : V) (ps qs : List Chunk) → made rule v (ps ++ qs) ≡ made rule (made rule v ps) qs
-made_append rule v [] qs = refl
-made_append rule v (c ∷ ps) qs = made_append rule (rule v c) ps qs
-
 same_state : {V : Type 0} (v v' : V) (t t' a : ℕ) (o o' : Bool) → v ≡ v' → t ≡ t' → o ≡ o' → state v t a o ≡ state v' t' a o'
 same_state v v' t t' a o o' p q r = cc
 
@@ -53,12 +50,9 @@ module _ {V : Type 0} (rule : V → Chunk → V) where
       let qs = pieces_of (open_end s.ajar xs) ys in
       let t : (s.taken + total ps) + total qs ≡ s.taken + total (pieces_of s.ajar (xs ++ ys)) = (let u = ap total e ∙ total_append ps qs in omega arith) in
       same_state _ _ _ _ _ _ _
-      (sym (ap (λ (v : List Chunk). made rule s.value v) e ∙ made_append rule s.value ps qs))
+      (sym (ap (λ (v : List Chunk). made rule s.value v) e ∙ made_++ rule s.value ps qs))
       t
       (sym (open_append s.ajar xs ys))
-
-  after_none : (s : State V) → after rule s [] ≡ s
-  after_none s = same_state _ _ _ _ _ _ _ refl (omega arith) refl
 
 -- A writing that goes on keeps what both parts keep.
 keeps_on : {V R : Type 0} {f f' f'' : V} {c c' c'' t t' t'' : ℕ} {r r' r'' : ℕ → R} → Keeps f f' c c' t t' r r' → Keeps f' f'' c' c'' t' t'' r' r'' → Keeps f f'' c c'' t t'' r r''
@@ -73,15 +67,8 @@ keeps_on p q = record {
 pub record Parts (ss xs ys : List Step) : Type 0 where
   pub is : ss ≡ xs ++ ys
 
--- No step, and one writing after another.
-pub wrote_none : {S : Type 0} (g : sinks.Ghosts S) (p : Pen S) → Wrote g p p []
-wrote_none g p = record {
-  written = sym (after_none g.rule (stands g p));
-  kept = record { fresh_same = refl; capacity_same = refl; forward = omega arith; rest_same = λ k h. refl };
-  same_sink = refl;
-}
-
-module _ {S : Type 0} {g : sinks.Ghosts S} where
+-- One writing after another.
+module _ {S : Type 0} {g : Ghosts S} where
   pub wrote_on : {p p' p'' : Pen S} {xs ys : List Step} → Wrote g p p' xs → Wrote g p' p'' ys → Wrote g p p'' (xs ++ ys)
   wrote_on {p} {p'} {p''} {xs} {ys} a b = record {
     written = b.written ∙ (ap (λ (s : State g.Value). after g.rule s ys) a.written ∙ after_append g.rule (stands g p) xs ys);
@@ -109,14 +96,11 @@ module _ {S : Type 0} {g : sinks.Ghosts S} where
   }
 
 -- A writing under way: what is left of the steps has room, and once it is written, all are.
-pub record UnderWay {S : Type 0} (g : sinks.Ghosts S) (p : Pen S) (ss : List Step) (p' : Pen S) (rest : List Step) : Type 0 where
+pub record UnderWay {S : Type 0} (g : Ghosts S) (p : Pen S) (ss : List Step) (p' : Pen S) (rest : List Step) : Type 0 where
   pub room : HasRoom g p' rest
   pub whole : (p'' : Pen S) → Wrote g p' p'' rest → Wrote g p p'' ss
 
-module _ {S : Type 0} {g : sinks.Ghosts S} where
-  pub begun : {p : Pen S} {ss : List Step} → HasRoom g p ss → UnderWay g p ss p ss
-  begun h = record { room = h; whole = λ q w. w }
-
+module _ {S : Type 0} {g : Ghosts S} where
   pub part_room : {p p' : Pen S} {ss rest xs ys : List Step} → UnderWay g p ss p' rest → Parts rest xs ys → HasRoom g p' xs
   part_room {p} {p'} {ss} {rest} {xs} {ys} u e = room_first ys (subst (HasRoom g p') e.is u.room)
 
@@ -126,20 +110,14 @@ module _ {S : Type 0} {g : sinks.Ghosts S} where
     whole = λ q v. u.whole q (subst (Wrote g p' q) (sym e.is) (wrote_on w v));
   }
 
-  pub all_done : {p p' : Pen S} {ss rest : List Step} → UnderWay g p ss p' rest → rest ≡ [] → Wrote g p p' ss
-  all_done {p} {p'} {ss} {rest} u e = u.whole p' (subst (Wrote g p' p') (sym e) (wrote_none g p'))
-
-pub each_append : (k : Kind) (xs ys : List Line) → each k (xs ++ ys) ≡ each k xs ++ each k ys
+each_append : (k : Kind) (xs ys : List Line) → each k (xs ++ ys) ≡ each k xs ++ each k ys
 each_append k [] ys = refl
 each_append k (x ∷ xs) ys = ap (λ (v : List Step). put (piece k x) ∷ v) (each_append k xs ys)
 
-pub between_more : (ls : List Line) (n to : ℕ) → n < to → to ≤ length ls → between ls n to ≡ get_or ls n [] ∷ between ls (n + 1) to
+between_more : (ls : List Line) (n to : ℕ) → n < to → to ≤ length ls → between ls n to ≡ get_or ls n [] ∷ between ls (n + 1) to
 between_more ls n to lt le =
     let q : to - n ≡ suc (to - (n + 1)) = omega arith in
     ap₂ (λ (m : ℕ) (v : List Line). take m v) q (drop_more ls n [] (omega arith))
-
-pub between_done : (ls : List Line) (n to : ℕ) → to ≤ n → between ls n to ≡ []
-between_done ls n to le = ap (λ m. take m (drop n ls)) (let q : to - n ≡ 0 = omega arith in q)
 
 -- A line of a range is the first piece of what is left of it.
 pub line_step : (k : code.Kind) (ls : List Line) (n to : ℕ) (p : Piece) (line : Line) → n < to → to ≤ length ls → chunk p ≡ chunk_of k line → line ≡ get_or ls n []

@@ -2,7 +2,7 @@
 use Rattle.std.specs.Prelude.{◌≡◌, ℕ, ◌+◌, ◌≤◌, Bool, false, List, [], ◌∷◌}
 use Rattle.rules.specs.Pieces.{Chunk, total, made}
 use Rattle.rules.specs.Steps.{Step, put, close, left_open, pieces_of}
-use Rattle.sink.specs.declared.sink.Sink as sinks
+use Rattle.sink.specs.declared.sink.Sink.{Ghosts}
 use Rattle.writing.specs.declared.pen.Pen.{Pen}
 
 -- Whether a line is open after steps of writing.
@@ -42,15 +42,15 @@ pub record Keeps {V : Type 0} {R : Type 0} (fresh fresh' : V) (capacity capacity
   pub rest_same : (k : ℕ) → taken' ≤ k → rest' k ≡ rest k
 
 -- Where a pen stands: its sink's state, by what the sink's kind says of it, and whether a line is open.
-abbrev pub stands : {S : Type 0} → (g : sinks.Ghosts S) → Pen S → State g.Value
+abbrev pub stands : {S : Type 0} → (g : Ghosts S) → Pen S → State g.Value
 stands g p = state (g.value p.sink.now) (g.taken p.sink.now) (g.announced p.sink.now) p.ajar
 
 -- The pen's sink has room for the steps.
-pub record HasRoom {S : Type 0} (g : sinks.Ghosts S) (p : Pen S) (ss : List Step) : Type 0 where
+pub record HasRoom {S : Type 0} (g : Ghosts S) (p : Pen S) (ss : List Step) : Type 0 where
   pub room : Room (stands g p) ss
 
 -- From the first pen to the second the steps were written into the sink that both hold, and nothing else was changed.
-pub record Wrote {S : Type 0} (g : sinks.Ghosts S) (p p' : Pen S) (ss : List Step) : Type 0 where
+pub record Wrote {S : Type 0} (g : Ghosts S) (p p' : Pen S) (ss : List Step) : Type 0 where
   pub written : stands g p' ≡ after g.rule (stands g p) ss
   pub kept : Keeps (g.fresh p.sink.now) (g.fresh p'.sink.now) (g.capacity p.sink.now) (g.capacity p'.sink.now) (g.taken p.sink.now) (g.taken p'.sink.now) (g.rest p.sink.now) (g.rest p'.sink.now)
   pub same_sink : p'.sink.ghost_name ≡ p.sink.ghost_name

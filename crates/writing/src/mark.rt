@@ -24,7 +24,7 @@ pub enum Mark {
 impl Mark {
     /// The marker's character as often as the largest marker has it.
     fn run(self) -> &'static [u8; MAX_MARKER_SIZE as usize]
-        ensures { result.now ≡ replicate 255 (mark_byte self) }
+        ensures { result.now ≡ replicate max_marker_size (mark_byte self) }
     {
         match self {
             Mark::Ours => &[b'<'; MAX_MARKER_SIZE as usize],

@@ -24,26 +24,17 @@ fn shown_ending<T: ThreeSheets>(three: &T, hunks: &[Hunk]) -> Ending
 }
 
 impl<'a, S: Sink> Pen<'a, S> {
-    /// Writes ours, then theirs, an open line closed ahead of each.
+    /// Writes what is left of ours, then of theirs, if either has a line, and closes an open line ahead of each.
     fn both<T: ThreeSheets>(&mut self, three: &T, sides: Sides<'_>)
-        requires readable { Readables (T.sheets three.now) (lists_lent sides) }
-        requires room { HasRoom S.Sink self.old (close (or_newline (ending_of (T.sheets three.now) sides.front.now)) ∷ (each ours (side_lines (T.sheets three.now) sides.left.now) ++ (close (or_newline (ending_of (T.sheets three.now) sides.left.now)) ∷ each theirs (side_lines (T.sheets three.now) sides.right.now)))) }
-        ensures { Wrote S.Sink self.old self.new (close (or_newline (ending_of (T.sheets three.now) sides.entry.front.now)) ∷ (each ours (side_lines (T.sheets three.now) sides.entry.left.now) ++ (close (or_newline (ending_of (T.sheets three.now) sides.entry.left.now)) ∷ each theirs (side_lines (T.sheets three.now) sides.entry.right.now)))) }
-    {
-        self.close_line(shown_ending(three, sides.front));
-        self.hunks(three, sides.left, Kind::Ours);
-        self.close_line(shown_ending(three, sides.left));
-        self.hunks(three, sides.right, Kind::Theirs);
-    }
-
-    /// Writes what is left of the two sides, if either has a line.
-    fn both_left<T: ThreeSheets>(&mut self, three: &T, sides: Sides<'_>)
         requires readable { Readables (T.sheets three.now) (lists_lent sides) }
         requires room { HasRoom S.Sink self.old (both_steps (T.sheets three.now) sides.front.now sides.left.now sides.right.now) }
         ensures { Wrote S.Sink self.old self.new (both_steps (T.sheets three.now) sides.entry.front.now sides.entry.left.now sides.entry.right.now) }
     {
         if sides.any_line_left(three) {
-            self.both(three, sides);
+            self.close_line(shown_ending(three, sides.front));
+            self.hunks(three, sides.left, Kind::Ours);
+            self.close_line(shown_ending(three, sides.left));
+            self.hunks(three, sides.right, Kind::Theirs);
         }
     }
 
@@ -64,7 +55,7 @@ impl<'a, S: Sink> Pen<'a, S> {
         ensures { Wrote S.Sink self.old self.new (union_steps (T.sheets three.now) (lists_lent sides.entry)) }
     {
         self.hunks(three, sides.front, Kind::Common);
-        self.both_left(three, sides);
+        self.both(three, sides);
         self.close_ahead(three, sides.right, sides.back);
         self.hunks(three, sides.back, Kind::Common);
     }

@@ -4,14 +4,14 @@ use Rattle.writing.proofs.pen.Pen.union.Goals as goal
 pub hunks-requires-clause-room : goal.hunks-requires-clause-room
 hunks-requires-clause-room g c = room_first _ c.requires.room
 
-pub both_left-requires-clause-room : goal.both_left-requires-clause-room
-both_left-requires-clause-room g c = room_first _ (room_rest c.requires.room c.hunks.ensures)
+pub both-requires-clause-room : goal.both-requires-clause-room
+both-requires-clause-room g c = room_first _ (room_rest c.requires.room c.hunks.ensures)
 
 pub close_ahead-requires : goal.close_ahead-requires
-close_ahead-requires g c = room_first _ (room_rest (room_rest c.requires.room c.hunks.ensures) c.both_left.ensures)
+close_ahead-requires g c = room_first _ (room_rest (room_rest c.requires.room c.hunks.ensures) c.both.ensures)
 
 pub hunks-requires-2-clause-room : goal.hunks-requires-2-clause-room
-hunks-requires-2-clause-room g c = room_rest (room_rest (room_rest c.requires.room c.hunks.ensures) c.both_left.ensures) c.close_ahead.ensures
+hunks-requires-2-clause-room g c = room_rest (room_rest (room_rest c.requires.room c.hunks.ensures) c.both.ensures) c.close_ahead.ensures
 
 pub returns : goal.returns
-returns g c = wrote_on c.hunks.ensures (wrote_on c.both_left.ensures (wrote_on c.close_ahead.ensures c.hunks-2.ensures))
+returns g c = wrote_on c.hunks.ensures (wrote_on c.both.ensures (wrote_on c.close_ahead.ensures c.hunks-2.ensures))
