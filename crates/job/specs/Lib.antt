@@ -1,5 +1,6 @@
 pub mod Ends
 pub mod Escapes
+pub mod Lines
 pub mod Numbers
 pub mod Orders
 pub mod Sums

@@ -22,6 +22,14 @@ pub enum Verb {
     Help,
 }
 
+/// The lines of three sheets, counted.
+#[derive(Clone, Copy, PartialEq, Eq, Debug)]
+pub struct LineCounts {
+    pub ancestor: u32,
+    pub current: u32,
+    pub other: u32,
+}
+
 /// One line of a job.
 #[derive(Clone, Copy)]
 pub enum Command<'a> {
@@ -34,9 +42,7 @@ pub enum Command<'a> {
         path: &'a [u8],
     },
     /// List the lines of a side's sheet.
-    Lines {
-        side: Side,
-    },
+    Lines(Side),
     /// Show a row of the text that the lines of a side's sheet make.
     Row {
         side: Side,
@@ -44,20 +50,12 @@ pub enum Command<'a> {
     },
     /// Open the table by the three sheets' counts of lines.
     Open,
-    /// Open the table by three counts that are given.
-    OpenBy {
-        ancestor: u32,
-        current: u32,
-        other: u32,
-    },
+    /// Open the table by counts that are given.
+    OpenBy(LineCounts),
     /// Enter a hunk into the table.
-    Enter {
-        hunk: Hunk,
-    },
+    Enter(Hunk),
     /// Take a side's last hunk out of the table.
-    Withdraw {
-        side: Side,
-    },
+    Withdraw(Side),
     /// List the hunks that the table holds.
     Held,
     /// Tell the commands.

@@ -1,16 +1,23 @@
 ghost use Rattle.std.specs.Prelude.{◌≡◌, ℕ, ◌+◌, ◌/◌, ◌%◌, ◌<◌, ◌≤◌, List, [], ◌∷◌, ◌++◌, OnOk};
 ghost use Rattle.job.specs.Escapes.{hex_digit, shown, shown_byte};
 
+use crate::spell::Spell;
 use std::alloc::AllocError;
 
-/// Adds bytes to a report so that a terminal can show them.
-pub fn show_bytes(report: &mut Vec<u8>, bytes: &[u8]) -> Result<(), AllocError>
-    ensures { OnOk result (report.new.items ≡ report.old.items ++ shown bytes.now) }
-{
-    for b in bytes {
-        show_byte(report, *b)?;
+/// Bytes as a terminal can show them.
+#[derive(Clone, Copy)]
+pub struct Shown<'a>(pub &'a [u8]);
+
+impl Spell for Shown<'_> {
+    ghost spelled = { λ it. shown it.0.now };
+
+    fn spell(&self, report: &mut Vec<u8>) -> Result<(), AllocError> {
+        let Shown(bytes) = *self;
+        for b in bytes {
+            show_byte(report, *b)?;
+        }
+        Ok(())
     }
-    Ok(())
 }
 
 fn show_byte(report: &mut Vec<u8>, b: u8) -> Result<(), AllocError>
@@ -30,5 +37,8 @@ fn hex_digit(d: u8) -> u8
     requires { d < 16 }
     ensures { result ≡ hex_digit d }
 {
-    if d < 10 { 48 + d } else { 87 + d }
+    match d {
+        0..=9 => b'0' + d,
+        _ => b'a' + (d - 10),
+    }
 }

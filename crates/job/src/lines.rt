@@ -1,5 +1,40 @@
 ghost use Rattle.std.specs.Prelude.{◌≡◌, ℕ, ◌<◌, ◌≤◌, ◌==◌, length, drop, position};
+ghost use Rattle.std.specs.Iterator.{YieldsFirstRef, item_count};
+ghost use Rattle.rules.specs.Texts.{text_lines};
 ghost use Rattle.job.specs.Ends.{bare, line_end};
+ghost use Rattle.job.specs.Lines.{lines_left};
+
+/// The lines of a job, each with its ending.
+#[derive(Drop)]
+pub struct Lines<'a> {
+    job: &'a [u8],
+    from: usize,
+}
+
+impl<'a> Lines<'a> {
+    pub fn of(job: &'a [u8]) -> Lines<'a>
+        ensures { lines_left result ≡ text_lines job.now }
+    {
+        Lines { job, from: 0 }
+    }
+}
+
+impl<'a> Iterator for Lines<'a> {
+    type Item = &'a [u8];
+
+    ghost next_gives = { YieldsFirstRef lines_left };
+
+    ghost remaining = { item_count lines_left };
+
+    fn next(&mut self) -> Option<&'a [u8]> {
+        if self.from >= self.job.len() {
+            return None;
+        }
+        let start = self.from;
+        self.from = line_end(self.job, start);
+        Some(&self.job[start..self.from])
+    }
+}
 
 /// Where the line that begins at a place of a job ends: behind its newline, or at the job's end.
 pub fn line_end(job: &[u8], from: usize) -> usize

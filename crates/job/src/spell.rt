@@ -1,31 +1,41 @@
-ghost use Rattle.std.specs.Prelude.{◌≡◌, List, [], ◌∷◌, ◌++◌, codes, decimal, OnOk};
-ghost use Rattle.job.specs.Orders.{hunk_text, numbers_text, order, span_text, spelled};
+//! Commands and what they are made of, as a job writes them.
+ghost use Rattle.std.specs.Prelude.{◌≡◌, ◌++◌, codes, decimal, OnOk};
+ghost use Rattle.job.specs.Orders.{hunk_text, numbers_text, order, span_text, spelled as command_text};
 ghost use Rattle.job.specs.Words.{kind_word, side_word, verb_word};
 
-use crate::command::{Command, SheetKind, Verb};
+use crate::command::{Command, LineCounts, SheetKind, Verb};
 use crate::names::Named;
+use itoa::Buffer;
 use rules::hunk::{Hunk, Side, Span};
 use std::alloc::AllocError;
 
-/// Adds a command to a report as it is written in a job.
-pub fn spell(report: &mut Vec<u8>, command: Command<'_>) -> Result<(), AllocError>
-    ensures { OnOk result (report.new.items ≡ report.old.items ++ spelled (order command.entry)) }
-{
-    match command {
-        Command::Nothing => Ok(()),
-        Command::Sheet { side, kind, path } => spell_sheet(report, side, kind, path),
-        Command::Lines { side } => spell_sided(report, Verb::Lines, side),
-        Command::Row { side, row } => spell_row(report, side, row),
-        Command::Open => put(report, Verb::Open.name().as_bytes()),
-        Command::OpenBy {
-            ancestor,
-            current,
-            other,
-        } => spell_open(report, ancestor, current, other),
-        Command::Enter { hunk } => spell_enter(report, hunk),
-        Command::Withdraw { side } => spell_sided(report, Verb::Withdraw, side),
-        Command::Held => put(report, Verb::Held.name().as_bytes()),
-        Command::Help => put(report, Verb::Help.name().as_bytes()),
+/// What a report can take in. It is not `Display`, for a path need not be text.
+pub trait Spell {
+    ghost use Rattle.std.specs.Prelude.{List, ℕ};
+
+    ghost spelled: { Self → List ℕ };
+
+    /// Adds it to a report.
+    fn spell(&self, report: &mut Vec<u8>) -> Result<(), AllocError>
+        ensures { OnOk result (report.new.items ≡ report.old.items ++ spelled self.now) };
+}
+
+impl Spell for Command<'_> {
+    ghost spelled = { λ command. command_text (order command) };
+
+    fn spell(&self, report: &mut Vec<u8>) -> Result<(), AllocError> {
+        match *self {
+            Command::Nothing => Ok(()),
+            Command::Sheet { side, kind, path } => spell_sheet(report, side, kind, path),
+            Command::Lines(side) => spell_sided(report, Verb::Lines, side),
+            Command::Row { side, row } => spell_behind(report, Verb::Row, side, &row),
+            Command::Open => put_name(report, Verb::Open),
+            Command::OpenBy(counts) => spell_open(report, counts),
+            Command::Enter(hunk) => spell_behind(report, Verb::Enter, hunk.side, &hunk),
+            Command::Withdraw(side) => spell_sided(report, Verb::Withdraw, side),
+            Command::Held => put_name(report, Verb::Held),
+            Command::Help => put_name(report, Verb::Help),
+        }
     }
 }
 
@@ -39,79 +49,89 @@ fn spell_sheet(
 {
     spell_sided(report, Verb::Sheet, side)?;
     put(report, b" ")?;
-    put(report, kind.name().as_bytes())?;
+    put_name(report, kind)?;
     put(report, b" ")?;
     put(report, path)
 }
 
-/// A word and a side.
+/// A command's first word and a side.
 fn spell_sided(report: &mut Vec<u8>, verb: Verb, side: Side) -> Result<(), AllocError>
     ensures { OnOk result (report.new.items ≡ report.old.items ++ (verb_word verb ++ (codes " " ++ side_word side))) }
 {
-    put(report, verb.name().as_bytes())?;
+    put_name(report, verb)?;
     put(report, b" ")?;
-    put(report, side.name().as_bytes())
+    put_name(report, side)
 }
 
-fn spell_row(report: &mut Vec<u8>, side: Side, row: u32) -> Result<(), AllocError>
-    ensures { OnOk result (report.new.items ≡ report.old.items ++ (codes "row " ++ (side_word side ++ (codes " " ++ decimal row)))) }
-{
-    spell_sided(report, Verb::Row, side)?;
-    put(report, b" ")?;
-    put_number(report, row)
-}
-
-fn spell_open(
+/// A command's first word, a side, and what goes on behind them.
+fn spell_behind<S: Spell>(
     report: &mut Vec<u8>,
-    ancestor: u32,
-    current: u32,
-    other: u32,
+    verb: Verb,
+    side: Side,
+    rest: &S,
 ) -> Result<(), AllocError>
-    ensures { OnOk result (report.new.items ≡ report.old.items ++ (codes "open " ++ numbers_text ancestor current other)) }
+    ensures { OnOk result (report.new.items ≡ report.old.items ++ (verb_word verb ++ (codes " " ++ (side_word side ++ (codes " " ++ S.spelled rest.now))))) }
 {
-    put(report, Verb::Open.name().as_bytes())?;
+    spell_sided(report, verb, side)?;
     put(report, b" ")?;
-    put_number(report, ancestor)?;
-    put(report, b" ")?;
-    put_number(report, current)?;
-    put(report, b" ")?;
-    put_number(report, other)
+    rest.spell(report)
 }
 
-fn spell_enter(report: &mut Vec<u8>, hunk: Hunk) -> Result<(), AllocError>
-    ensures { OnOk result (report.new.items ≡ report.old.items ++ (codes "enter " ++ (side_word hunk.side ++ (codes " " ++ hunk_text hunk)))) }
+fn spell_open(report: &mut Vec<u8>, counts: LineCounts) -> Result<(), AllocError>
+    ensures { OnOk result (report.new.items ≡ report.old.items ++ (codes "open " ++ numbers_text counts.ancestor counts.current counts.other)) }
 {
-    spell_sided(report, Verb::Enter, hunk.side)?;
+    put_name(report, Verb::Open)?;
     put(report, b" ")?;
-    put_hunk(report, hunk)
+    counts.spell(report)
 }
 
-/// Adds a hunk's two ranges to a report, with a slash between them.
-pub fn put_hunk(report: &mut Vec<u8>, hunk: Hunk) -> Result<(), AllocError>
-    ensures { OnOk result (report.new.items ≡ report.old.items ++ hunk_text hunk) }
-{
-    put_span(report, hunk.before)?;
-    put(report, b"/")?;
-    put_span(report, hunk.after)
-}
+/// The three counts with a space between them.
+impl Spell for LineCounts {
+    ghost spelled = { λ counts. numbers_text counts.ancestor counts.current counts.other };
 
-fn put_span(report: &mut Vec<u8>, span: Span) -> Result<(), AllocError>
-    ensures { OnOk result (report.new.items ≡ report.old.items ++ span_text span) }
-{
-    put_number(report, span.start)?;
-    put(report, b"..")?;
-    put_number(report, span.end)
-}
-
-/// Adds a number to a report in decimal digits.
-pub fn put_number(report: &mut Vec<u8>, n: u32) -> Result<(), AllocError>
-    ensures { OnOk result (report.new.items ≡ report.old.items ++ decimal n) }
-{
-    if n < 10 {
-        return put(report, &[b'0' + n as u8]);
+    fn spell(&self, report: &mut Vec<u8>) -> Result<(), AllocError> {
+        self.ancestor.spell(report)?;
+        put(report, b" ")?;
+        self.current.spell(report)?;
+        put(report, b" ")?;
+        self.other.spell(report)
     }
-    put_number(report, n / 10)?;
-    put(report, &[b'0' + (n % 10) as u8])
+}
+
+/// A hunk's two ranges with a slash between them.
+impl Spell for Hunk {
+    ghost spelled = { hunk_text };
+
+    fn spell(&self, report: &mut Vec<u8>) -> Result<(), AllocError> {
+        self.before.spell(report)?;
+        put(report, b"/")?;
+        self.after.spell(report)
+    }
+}
+
+impl Spell for Span {
+    ghost spelled = { span_text };
+
+    fn spell(&self, report: &mut Vec<u8>) -> Result<(), AllocError> {
+        self.start.spell(report)?;
+        put(report, b"..")?;
+        self.end.spell(report)
+    }
+}
+
+/// A number in decimal digits.
+impl Spell for u32 {
+    ghost spelled = { decimal };
+
+    fn spell(&self, report: &mut Vec<u8>) -> Result<(), AllocError> {
+        put(report, Buffer::new().format(*self).as_bytes())
+    }
+}
+
+fn put_name<N: Named>(report: &mut Vec<u8>, named: N) -> Result<(), AllocError>
+    ensures { OnOk result (report.new.items ≡ report.old.items ++ N.name named) }
+{
+    put(report, named.name().as_bytes())
 }
 
 /// Adds bytes to a report as they are.

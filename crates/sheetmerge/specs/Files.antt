@@ -1,8 +1,10 @@
 -- A sheet as its file is laid out: the list of the kind that the file has.
 use Rattle.rules.specs.Texts.{LineList}
-use Rattle.job.specs.declared.command.SheetKind.{SheetKind}
-use Rattle.job.specs.declared.command.SheetKind.TheVariants.{Text, Cells}
+use Rattle.sheet.specs.contracts.text.ops.TextSheetSheet.TheImpl.{ghosts as text_meaning}
+use Rattle.sheet.specs.contracts.cells.ops.CellSheetSheet.TheImpl.{ghosts as cell_meaning}
+use Rattle.sheetmerge.specs.declared.file_sheet.FileSheet.{FileSheet}
+use Rattle.sheetmerge.specs.declared.file_sheet.FileSheet.TheVariants.{Text, Cells}
 
-abbrev pub by_kind : SheetKind → LineList → LineList → LineList
-by_kind Text text cells = text
-by_kind Cells text cells = cells
+abbrev pub shown : FileSheet → LineList
+shown (Text text) = text_meaning.sheet text
+shown (Cells cells) = cell_meaning.sheet cells

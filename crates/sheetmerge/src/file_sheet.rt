@@ -1,30 +1,30 @@
-ghost use Rattle.sheetmerge.specs.Files.{by_kind};
+ghost use Rattle.sheetmerge.specs.Files.{shown};
 
-use job::command::SheetKind;
+use sheet::cells::CellSheet;
 use sheet::sheet::Sheet;
+use sheet::text::TextSheet;
 
-/// A sheet as its file is laid out: one of two kinds, of which the other is empty.
-#[derive(Drop)]
-pub struct FileSheet<T, C> {
-    pub kind: SheetKind,
-    pub text: T,
-    pub cells: C,
+/// A sheet as its file is laid out.
+#[derive(Clone, Copy)]
+pub enum FileSheet<'a> {
+    Text(TextSheet<'a>),
+    Cells(CellSheet<'a>),
 }
 
-impl<T: Sheet, C: Sheet> Sheet for FileSheet<T, C> {
-    ghost sheet = { λ s. by_kind s.kind (T.Sheet.sheet s.text) (C.Sheet.sheet s.cells) };
+impl Sheet for FileSheet<'_> {
+    ghost sheet = { shown };
 
     fn count(&self) -> u32 {
-        match self.kind {
-            SheetKind::Text => self.text.count(),
-            SheetKind::Cells => self.cells.count(),
+        match self {
+            FileSheet::Text(text) => text.count(),
+            FileSheet::Cells(cells) => cells.count(),
         }
     }
 
     fn line(&self, n: u32) -> Option<&[u8]> {
-        match self.kind {
-            SheetKind::Text => self.text.line(n),
-            SheetKind::Cells => self.cells.line(n),
+        match self {
+            FileSheet::Text(text) => text.line(n),
+            FileSheet::Cells(cells) => cells.line(n),
         }
     }
 }

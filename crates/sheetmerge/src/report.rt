@@ -1,8 +1,8 @@
 //! What is printed for a command: the command itself, and a refusal by its number.
 use job::command::Command;
-use job::escape::show_bytes;
+use job::escape::Shown;
 use job::outcome::Outcome;
-use job::spell::{put, spell};
+use job::spell::{Spell, put};
 use rules::refusal::Refusal;
 use std::fmt::Display;
 use std::io;
@@ -11,7 +11,7 @@ use std::io::Write;
 /// Prints a command as it was read, and a colon.
 pub fn echo(rt: &HostRuntime, command: Command<'_>) -> io::Result<()> {
     let mut report = Vec::new(rt.alloc());
-    spell(&mut report, command)?;
+    command.spell(&mut report)?;
     put(&mut report, b": ")?;
     rt.stdout().write_all(&report)
 }
@@ -19,7 +19,7 @@ pub fn echo(rt: &HostRuntime, command: Command<'_>) -> io::Result<()> {
 /// Prints bytes so that a terminal can show them, and ends the line.
 pub fn show_line(rt: &HostRuntime, bytes: &[u8]) -> io::Result<()> {
     let mut report = Vec::new(rt.alloc());
-    show_bytes(&mut report, bytes)?;
+    Shown(bytes).spell(&mut report)?;
     put(&mut report, b"\n")?;
     rt.stdout().write_all(&report)
 }
@@ -31,4 +31,10 @@ pub fn refuse<R: Refusal + Display>(rt: &HostRuntime, refusal: R) -> io::Result<
     let place = refusal.place();
     println!(rt; "refused {number} ({layer}), place {place}: {refusal}")?;
     Ok(Outcome::Refused)
+}
+
+/// Prints why a command came to nothing before a call.
+pub fn fail(rt: &HostRuntime, why: &str) -> io::Result<Outcome> {
+    println!(rt; "failed, {why}")?;
+    Ok(Outcome::Failed)
 }

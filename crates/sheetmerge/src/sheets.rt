@@ -1,11 +1,10 @@
 //! Sheets taken in, listed and shown row by row.
-use crate::report::{refuse, show_line};
+use crate::report::{fail, refuse, show_line};
 use crate::store::{Section, Stored};
 use crate::words::ending_word;
 use job::command::SheetKind;
 use job::outcome::Outcome;
 use rules::hunk::Side;
-use sheet::line::ending_of;
 use sheet::sheet::Sheet;
 use sheet::total::bytes_in;
 use sink::piece::Piece;
@@ -21,17 +20,14 @@ pub fn take_in(
     kind: SheetKind,
     path: &[u8],
 ) -> io::Result<Outcome> {
-    let Ok(name) = std::str::from_utf8(path) else {
-        println!(rt; "failed, the path is not text")?;
-        return Ok(Outcome::Failed);
+    let Ok(name) = str::from_utf8(path) else {
+        return fail(rt, "the path is not text");
     };
     let Ok(bytes) = fs::read(rt, name) else {
-        println!(rt; "failed, the file cannot be read")?;
-        return Ok(Outcome::Failed);
+        return fail(rt, "the file cannot be read");
     };
-    let mut stored = Stored::raw(rt.alloc(), kind, bytes)?;
-    match stored.check() {
-        Ok(_) => {
+    match Stored::read(rt.alloc(), kind, bytes)? {
+        Ok(stored) => {
             told(rt, &stored.sheet())?;
             section.put(side, stored);
             Ok(Outcome::Done)
@@ -50,7 +46,7 @@ pub fn list<S: Sheet>(rt: &HostRuntime, sheet: &S) -> io::Result<Outcome> {
     told(rt, sheet)?;
     for n in 0..sheet.count() {
         if let Some(line) = sheet.line(n) {
-            let ending = ending_word(line, ending_of(line));
+            let ending = ending_word(line);
             print!(rt; "{n:>6}  {ending:<5}  ")?;
             show_line(rt, line)?;
         }

@@ -1,36 +1,88 @@
 //! The sheets that were taken in, kept as the bytes of their files.
 use crate::file_sheet::FileSheet;
-use job::command::SheetKind;
+use job::command::{LineCounts, SheetKind};
 use rules::hunk::Side;
 use rules::limits::MAX_LINES;
 use sheet::cells::CellSheet;
 use sheet::refusal::SheetRefusal;
+use sheet::sheet::Sheet;
 use sheet::split::split;
 use sheet::text::TextSheet;
 use std::alloc::{AllocError, Global};
 
-/// A file's bytes, and for a text its line starts.
+/// A file's bytes as its kind of sheet has them.
 #[derive(Drop)]
-pub struct Stored {
-    kind: SheetKind,
-    bytes: Vec<u8>,
-    starts: Vec<u32>,
+pub enum Stored {
+    /// A text, and where its lines start.
+    Text { text: Vec<u8>, starts: Vec<u32> },
+    Cells(Vec<u8>),
+}
+
+impl Stored {
+    /// A text of no lines.
+    pub fn empty(heap: Global) -> Stored {
+        Stored::Text {
+            text: Vec::new(heap),
+            starts: Vec::new(heap),
+        }
+    }
+
+    /// A file's bytes, if they are a sheet of the kind.
+    pub fn read(
+        heap: Global,
+        kind: SheetKind,
+        bytes: Vec<u8>,
+    ) -> Result<Result<Stored, SheetRefusal>, AllocError> {
+        match kind {
+            SheetKind::Text => Stored::read_text(heap, bytes),
+            SheetKind::Cells => Ok(Stored::read_cells(bytes)),
+        }
+    }
+
+    fn read_text(heap: Global, text: Vec<u8>) -> Result<Result<Stored, SheetRefusal>, AllocError> {
+        let mut starts = vec![in heap; 0u32; MAX_LINES as usize]?;
+        Ok(match split(&text, &mut starts) {
+            Ok(_) => Ok(Stored::Text { text, starts }),
+            Err(refusal) => Err(refusal),
+        })
+    }
+
+    fn read_cells(memory: Vec<u8>) -> Result<Stored, SheetRefusal> {
+        CellSheet::empty().open(&memory)?;
+        Ok(Stored::Cells(memory))
+    }
+
+    /// The sheet in the bytes. They were a sheet when they were read, so none of them is refused here.
+    pub fn sheet(&self) -> FileSheet<'_> {
+        match self {
+            Stored::Text { text, starts } => {
+                let mut sheet = TextSheet::empty();
+                let _ = sheet.open(text, starts);
+                FileSheet::Text(sheet)
+            }
+            Stored::Cells(memory) => {
+                let mut sheet = CellSheet::empty();
+                let _ = sheet.open(memory);
+                FileSheet::Cells(sheet)
+            }
+        }
+    }
 }
 
 /// The three sheets of a rope section; each is empty before one is taken in.
 #[derive(Drop)]
 pub struct Section {
-    pub ancestor: Stored,
-    pub current: Stored,
-    pub other: Stored,
+    ancestor: Stored,
+    current: Stored,
+    other: Stored,
 }
 
 impl Section {
     pub fn new(heap: Global) -> Section {
         Section {
-            ancestor: Stored::new(heap),
-            current: Stored::new(heap),
-            other: Stored::new(heap),
+            ancestor: Stored::empty(heap),
+            current: Stored::empty(heap),
+            other: Stored::empty(heap),
         }
     }
 
@@ -49,50 +101,12 @@ impl Section {
             Side::Other => self.other = stored,
         }
     }
-}
 
-impl Stored {
-    pub fn new(heap: Global) -> Stored {
-        Stored {
-            kind: SheetKind::Text,
-            bytes: Vec::new(heap),
-            starts: Vec::new(heap),
-        }
-    }
-
-    /// A file's bytes as they came, with room for every line start.
-    pub fn raw(heap: Global, kind: SheetKind, bytes: Vec<u8>) -> Result<Stored, AllocError> {
-        Ok(Stored {
-            kind,
-            bytes,
-            starts: vec![in heap; 0u32; MAX_LINES as usize]?,
-        })
-    }
-
-    /// Finds the line starts, if it is a text, and tells the number of lines.
-    pub fn check(&mut self) -> Result<u32, SheetRefusal> {
-        match self.kind {
-            SheetKind::Text => split(&self.bytes, &mut self.starts),
-            SheetKind::Cells => CellSheet::empty().open(&self.bytes),
-        }
-    }
-
-    /// The sheet in the bytes. Bytes that passed the check are opened again; any others would leave it empty.
-    pub fn sheet(&self) -> FileSheet<TextSheet<'_>, CellSheet<'_>> {
-        let mut text = TextSheet::empty();
-        let mut cells = CellSheet::empty();
-        match self.kind {
-            SheetKind::Text => {
-                let _ = text.open(&self.bytes, &self.starts);
-            }
-            SheetKind::Cells => {
-                let _ = cells.open(&self.bytes);
-            }
-        }
-        FileSheet {
-            kind: self.kind,
-            text,
-            cells,
+    pub fn counts(&self) -> LineCounts {
+        LineCounts {
+            ancestor: self.ancestor.sheet().count(),
+            current: self.current.sheet().count(),
+            other: self.other.sheet().count(),
         }
     }
 }

@@ -12,8 +12,7 @@ use rules::hunk::Side;
 pub(super) fn read_lines(line: &[u8]) -> Option<Command<'_>>
     ensures { option_map order result ≡ read_lines line.now }
 {
-    let side = from_name(line)?;
-    Some(Command::Lines { side })
+    Some(Command::Lines(from_name(line)?))
 }
 
 pub(super) fn read_row(line: &[u8]) -> Option<Command<'_>>

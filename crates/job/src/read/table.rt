@@ -3,7 +3,7 @@ ghost use Rattle.std.specs.Prelude.{◌≡◌, codes};
 ghost use Rattle.std.specs.Option.{option_map};
 ghost use Rattle.job.specs.Orders.{hunk_order, order, read_enter, read_open, read_withdraw};
 
-use crate::command::Command;
+use crate::command::{Command, LineCounts};
 use crate::names::from_name;
 use crate::read::numbers::{last_number, number_then};
 use crate::read::words::front_named;
@@ -16,11 +16,11 @@ pub(super) fn read_open(line: &[u8]) -> Option<Command<'_>>
     let (ancestor, rest) = number_then(b" ", line)?;
     let (current, rest) = number_then(b" ", rest)?;
     let other = last_number(rest)?;
-    Some(Command::OpenBy {
+    Some(Command::OpenBy(LineCounts {
         ancestor,
         current,
         other,
-    })
+    }))
 }
 
 pub(super) fn read_enter(line: &[u8]) -> Option<Command<'_>>
@@ -34,24 +34,21 @@ pub(super) fn read_enter(line: &[u8]) -> Option<Command<'_>>
 fn read_hunk(side: Side, line: &[u8]) -> Option<Command<'_>>
     ensures { option_map order result ≡ hunk_order side line.now }
 {
-    let (b, rest) = number_then(b"..", line)?;
-    let (e, rest) = number_then(b"/", rest)?;
+    let (start, rest) = number_then(b"..", line)?;
+    let (end, rest) = number_then(b"/", rest)?;
+    let before = Span { start, end };
     let (start, rest) = number_then(b"..", rest)?;
     let end = last_number(rest)?;
-    let before = Span { start: b, end: e };
     let after = Span { start, end };
-    Some(Command::Enter {
-        hunk: Hunk {
-            before,
-            after,
-            side,
-        },
-    })
+    Some(Command::Enter(Hunk {
+        before,
+        after,
+        side,
+    }))
 }
 
 pub(super) fn read_withdraw(line: &[u8]) -> Option<Command<'_>>
     ensures { option_map order result ≡ read_withdraw line.now }
 {
-    let side = from_name(line)?;
-    Some(Command::Withdraw { side })
+    Some(Command::Withdraw(from_name(line)?))
 }
