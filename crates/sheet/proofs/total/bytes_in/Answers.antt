@@ -13,18 +13,12 @@ sum-requires-clause-fits g c =
     (YieldsList-from_map _ length (YieldsList-from_first (λ x. x.now) (λ s. drop s.at (g.S.Sheet.sheet s.sheet.now).lines) ls cc) c.map.ensures.closure (λ x r q k. search (rules, tests)))
     (omega arith)
 
-pub overflow_cast-result : goal.overflow_cast-result
-overflow_cast-result g c =
-    let ls = (g.S.Sheet.sheet c.args.sheet.now).lines in
-    let short = (g.S.Sheet.sheet c.args.sheet.now).formed.2 in
-    let e = bytes_summed ls in
-    let t = sum_by_from_yields_List length ls c.map.result c.sum.result c.sum.ensures.ran
-    (YieldsList-from_map _ length (YieldsList-from_first (λ x. x.now) (λ s. drop s.at (g.S.Sheet.sheet s.sheet.now).lines) ls cc) c.map.ensures.closure (λ x r q k. search (rules, tests))) in
-    omega arith
-
 pub returns : goal.returns
 returns g c =
     let ls = (g.S.Sheet.sheet c.args.sheet.now).lines in
     sum_by_from_yields_List length ls c.map.result c.sum.result c.sum.ensures.ran
     (YieldsList-from_map _ length (YieldsList-from_first (λ x. x.now) (λ s. drop s.at (g.S.Sheet.sheet s.sheet.now).lines) ls cc) c.map.ensures.closure (λ x r q k. search (rules, tests))) ∙
     bytes_summed ls
+
+pub overflow_cast-result : goal.overflow_cast-result
+overflow_cast-result g c = let short = (g.S.Sheet.sheet c.args.sheet.now).formed.2 in let e = returns g c in omega arith
