@@ -16,7 +16,7 @@ pub struct Ahead<'a> {
     ghost leads: { slice_get (walk current.now other.now) 0 ≡ Some first },
 }
 
-// The first hunk of the walk, or nothing where neither side has one.
+// The first hunk of the walk, or nothing where neither side has one. At equal starts the current side leads.
 fn first_hunk(current: &[Hunk], other: &[Hunk]) -> Option<Hunk>
     ensures { result ≡ slice_get (walk current.now other.now) 0 }
 {

@@ -28,7 +28,7 @@ pub struct NextCluster {
     pub lead: Side,
 }
 
-// Stays: `KeptHunks` is asked of three functions; it names sheets, and "antt found no proof that this ghost field's type is a proposition".
+// Stays: `KeptHunks` is asked of three functions, since a ghost field of it is refused: it names some sheets, and is no proposition.
 // The cluster that the first hunk of the walk begins: a group if it touches a hunk of the facing side, and else a lone hunk.
 fn cluster_of(ahead: Ahead<'_>) -> NextCluster
     requires { KeptHunks ahead.current.now ahead.other.now }
