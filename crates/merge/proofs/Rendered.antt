@@ -78,14 +78,14 @@ module _ (t : Held) (s : Sheets) (a : Asked) where
         → k.value begun ≡ k.fresh old → k.taken begun ≡ 0 → k.announced begun ≡ total (rendering a.mode s a.labels t.current t.other)
         → k.fresh begun ≡ k.fresh old → k.capacity begun ≡ k.capacity old → ((j : ℕ) → k.rest begun j ≡ k.rest old j)
         → state (k.value new) (k.taken new) (k.announced new) ajar ≡ after k.rule (state (k.value begun) (k.taken begun) (k.announced begun) false) (steps_from a.mode s a.labels 0 (clusters (walk t.current t.other)))
-        → Keeps (k.fresh begun) (k.fresh new) (k.capacity begun) (k.capacity new) (k.taken begun) (k.taken new) (k.rest begun) (k.rest new)
+        → Keeps k begun new
         → Renders k t s a old new (Ok v)
     given begun ajar v e p value taken announced fresh capacity rest written kept = record {
       answer = ap (λ (x : Resolution). Ok x) p ∙ sym (ap (λ (x : Option RenderRefusal). answered x (verdict a.mode s t.current t.other)) e);
       sink =
           written_sink k.rule (k.fresh old) _ _ _ _ _ _ ajar (steps_from a.mode s a.labels 0 (clusters (walk t.current t.other))) written value taken announced
           ∙ sym (ap (λ (x : Option RenderRefusal). changed x (filled_sink k.rule (k.fresh old) (rendering a.mode s a.labels t.current t.other)) (sink_at k old)) e);
-      kept = record { fresh = kept.fresh_same ∙ fresh; capacity = kept.capacity_same ∙ capacity; rest = λ j h. kept.rest_same j h ∙ rest j };
+      kept = record { fresh = kept.alone.fresh ∙ fresh; capacity = kept.alone.capacity ∙ capacity; rest = λ j h. kept.alone.rest j h ∙ rest j };
       refused = λ x. absurd (true≢false (sym x));
     }
 

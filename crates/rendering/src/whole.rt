@@ -77,7 +77,7 @@ pub fn write_merge<T: ThreeSheets, S: Sink>(
     requires size { size_of mode ≤ max_marker_size }
     requires room { Room (state (S.value sink.old) (S.taken sink.old) (S.announced sink.old) false) (steps_from mode (T.sheets three.now) (labels_in labels) 0 (clusters (walk current.now other.now))) }
     ensures written { (state (S.value sink.new) (S.taken sink.new) (S.announced sink.new) (open_end false (steps_from mode (T.sheets three.now) (labels_in labels.entry) 0 (clusters (walk current.now other.now))))) ≡ after S.rule (state (S.value sink.old) (S.taken sink.old) (S.announced sink.old) false) (steps_from mode (T.sheets three.now) (labels_in labels.entry) 0 (clusters (walk current.now other.now))) }
-    ensures kept { Keeps (S.fresh sink.old) (S.fresh sink.new) (S.capacity sink.old) (S.capacity sink.new) (S.taken sink.old) (S.taken sink.new) (S.rest sink.old) (S.rest sink.new) }
+    ensures kept { Keeps S.Sink sink.old sink.new }
     ensures marked { result ≡ any_marked mode (T.sheets three.now) (clusters (walk current.now other.now)) }
 {
     let mut pen = Pen::new(sink);

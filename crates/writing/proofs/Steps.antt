@@ -55,12 +55,14 @@ module _ {V : Type 0} (rule : V → Chunk → V) where
       (sym (open_append s.ajar xs ys))
 
 -- A writing that goes on keeps what both parts keep.
-keeps_on : {V R : Type 0} {f f' f'' : V} {c c' c'' t t' t'' : ℕ} {r r' r'' : ℕ → R} → Keeps f f' c c' t t' r r' → Keeps f' f'' c' c'' t' t'' r' r'' → Keeps f f'' c c'' t t'' r r''
+keeps_on : {S : Type 0} {g : Ghosts S} {a b c : S} → Keeps g a b → Keeps g b c → Keeps g a c
 keeps_on p q = record {
-  fresh_same = q.fresh_same ∙ p.fresh_same;
-  capacity_same = q.capacity_same ∙ p.capacity_same;
   forward = let a = p.forward in let b = q.forward in omega arith;
-  rest_same = λ k h. q.rest_same k h ∙ p.rest_same k (let b = q.forward in omega arith);
+  alone = record {
+    fresh = q.alone.fresh ∙ p.alone.fresh;
+    capacity = q.alone.capacity ∙ p.alone.capacity;
+    rest = λ k h. q.alone.rest k h ∙ p.alone.rest k (let b = q.forward in omega arith);
+  };
 }
 
 -- Steps in two parts; a record, so that the parts are inferred.

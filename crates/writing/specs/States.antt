@@ -3,6 +3,7 @@ use Rattle.std.specs.Prelude.{◌≡◌, ℕ, ◌+◌, ◌≤◌, Bool, false, L
 use Rattle.rules.specs.Pieces.{Chunk, total, made}
 use Rattle.rules.specs.Steps.{Step, put, close, left_open, pieces_of}
 use Rattle.sink.specs.declared.sink.Sink.{Ghosts}
+use Rattle.sink.specs.Sinks.{LeavesAlone}
 use Rattle.writing.specs.declared.pen.Pen.{Pen}
 
 -- Whether a line is open after steps of writing.
@@ -34,12 +35,10 @@ after rule s ss = record {
 abbrev pub Room : {V : Type 0} → State V → List Step → Type 0
 Room s ss = s.taken + total (pieces_of s.ajar ss) ≤ s.announced
 
--- What a writing leaves alone: the fresh value, the capacity, and what lies behind the bytes taken.
-pub record Keeps {V : Type 0} {R : Type 0} (fresh fresh' : V) (capacity capacity' taken taken' : ℕ) (rest rest' : ℕ → R) : Type 0 where
-  pub fresh_same : fresh' ≡ fresh
-  pub capacity_same : capacity' ≡ capacity
-  pub forward : taken ≤ taken'
-  pub rest_same : (k : ℕ) → taken' ≤ k → rest' k ≡ rest k
+-- What a writing keeps of a sink: it goes forward, and leaves alone the fresh value, the capacity, and what lies behind the bytes taken.
+pub record Keeps {S : Type 0} (g : Ghosts S) (old new : S) : Type 0 where
+  pub forward : g.taken old ≤ g.taken new
+  pub alone : LeavesAlone g old new
 
 -- Where a pen stands: its sink's state, by what the sink's kind says of it, and whether a line is open.
 abbrev pub stands : {S : Type 0} → (g : Ghosts S) → Pen S → State g.Value
@@ -52,5 +51,5 @@ pub record HasRoom {S : Type 0} (g : Ghosts S) (p : Pen S) (ss : List Step) : Ty
 -- From the first pen to the second the steps were written into the sink that both hold, and nothing else was changed.
 pub record Wrote {S : Type 0} (g : Ghosts S) (p p' : Pen S) (ss : List Step) : Type 0 where
   pub written : stands g p' ≡ after g.rule (stands g p) ss
-  pub kept : Keeps (g.fresh p.sink.now) (g.fresh p'.sink.now) (g.capacity p.sink.now) (g.capacity p'.sink.now) (g.taken p.sink.now) (g.taken p'.sink.now) (g.rest p.sink.now) (g.rest p'.sink.now)
+  pub kept : Keeps g p.sink.now p'.sink.now
   pub same_sink : p'.sink.ghost_name ≡ p.sink.ghost_name
