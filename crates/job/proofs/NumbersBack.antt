@@ -1,6 +1,7 @@
 -- A number, spelled, reads back as itself.
 use Rattle.std.proofs.Common.{◌≡◌, ℕ, suc, ◌+◌, ◌^◌, ◌<◌, Bool, true, false, cond, ◌&&◌, List, [], ◌∷◌, ◌++◌, length, take, drop, Some, None, decimal, sym, refl, ap, ◌∙◌, true≢false, arith}
 use Rattle.std.proofs.lemmas.Fmt.{decimal_nonempty, digits_decimal, digits_value-decimal}
+use Rattle.std.proofs.Math.Seq.{drop-append_seam, take-append_seam}
 use Rattle.std.proofs.lemmas.List.{append-nil}
 use Rattle.std.specs.Str.{all_ascii_digits}
 use Rattle.job.specs.Numbers.{Fits32, at_end, digit_count, front_number, is_digit, last_number, number_of, number_then, with_mark}
@@ -16,19 +17,11 @@ count_ahead (d ∷ ds) rest h z = by (is_digit d) h (λ g. count_ahead ds rest g
     by true g ih = let e = ih g in omega arith
     by false g ih = absurd (true≢false (sym g))
 
-take_front : (ds rest : List ℕ) → take (length ds) (ds ++ rest) ≡ ds
-take_front [] rest = refl
-take_front (d ∷ ds) rest = ap (λ v. d ∷ v) (take_front ds rest)
-
-drop_front : (ds rest : List ℕ) → drop (length ds) (ds ++ rest) ≡ rest
-drop_front [] rest = refl
-drop_front (d ∷ ds) rest = drop_front ds rest
-
 front_at : (ds rest : List ℕ) (n : ℕ) → all_ascii_digits ds ≡ true → digit_count rest ≡ 0 → number_of ds ≡ Some n → front_number (ds ++ rest) ≡ Some (n, rest)
 front_at ds rest n a z v =
     ap (λ k. with_rest (number_of (take k (ds ++ rest))) (drop k (ds ++ rest))) (count_ahead ds rest a z) ∙
-    ap (λ t. with_rest (number_of t) (drop (length ds) (ds ++ rest))) (take_front ds rest) ∙
-    ap (λ t. with_rest (number_of ds) t) (drop_front ds rest) ∙
+    ap (λ t. with_rest (number_of t) (drop (length ds) (ds ++ rest))) (take-append_seam ds rest) ∙
+    ap (λ t. with_rest (number_of ds) t) (drop-append_seam ds rest) ∙
     ap (λ o. with_rest o rest) v
 
 front_back : (n : ℕ) (rest : List ℕ) → Fits32 n → digit_count rest ≡ 0 → front_number (decimal n ++ rest) ≡ Some (n, rest)

@@ -24,13 +24,24 @@ pub fn show_line(rt: &HostRuntime, bytes: &[u8]) -> io::Result<()> {
     rt.stdout().write_all(&report)
 }
 
-/// Prints why a call is refused.
-pub fn refuse<R: Refusal + Display>(rt: &HostRuntime, refusal: R) -> io::Result<Outcome> {
-    let number = refusal.number();
-    let layer = refusal.layer();
-    let place = refusal.place();
-    println!(rt; "refused {number} ({layer}), place {place}: {refusal}")?;
-    Ok(Outcome::Refused)
+/// Prints what a call answered, or why it is refused.
+pub fn tell<A: Display + Drop, R: Refusal + Display>(
+    rt: &HostRuntime,
+    answer: Result<A, R>,
+) -> io::Result<Outcome> {
+    match answer {
+        Ok(answer) => {
+            println!(rt; "{answer}")?;
+            Ok(Outcome::Done)
+        }
+        Err(refusal) => {
+            let number = refusal.number();
+            let layer = refusal.layer();
+            let place = refusal.place();
+            println!(rt; "refused {number} ({layer}), place {place}: {refusal}")?;
+            Ok(Outcome::Refused)
+        }
+    }
 }
 
 /// Prints why a command came to nothing before a call.

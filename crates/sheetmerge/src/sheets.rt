@@ -1,10 +1,11 @@
 //! Sheets taken in, listed and shown row by row.
-use crate::report::{fail, refuse, show_line};
+use crate::report::{fail, show_line, tell};
 use crate::store::{Section, Stored};
-use crate::words::ending_word;
+use crate::words::{Extent, ending_word};
 use job::command::SheetKind;
 use job::outcome::Outcome;
 use rules::hunk::Side;
+use sheet::refusal::SheetRefusal;
 use sheet::sheet::Sheet;
 use sheet::total::bytes_in;
 use sink::piece::Piece;
@@ -26,30 +27,29 @@ pub fn take_in(
     let Ok(bytes) = fs::read(rt, name) else {
         return fail(rt, "the file cannot be read");
     };
-    match Stored::read(rt.alloc(), kind, bytes)? {
-        Ok(stored) => {
-            told(rt, &stored.sheet())?;
-            section.put(side, stored);
-            Ok(Outcome::Done)
-        }
-        Err(refusal) => refuse(rt, refusal),
-    }
+    let read = Stored::read(rt.alloc(), kind, bytes)?;
+    tell(rt, put(section, side, read))
 }
 
-/// Prints how many lines and bytes a sheet has.
-fn told<S: Sheet>(rt: &HostRuntime, sheet: &S) -> io::Result<()> {
-    println!(rt; "{} lines, {} bytes", sheet.count(), bytes_in(sheet))
+/// Puts a sheet in its side's place, unless it was refused, and answers how much it holds.
+fn put(
+    section: &mut Section,
+    side: Side,
+    read: Result<Stored, SheetRefusal>,
+) -> Result<Extent, SheetRefusal> {
+    let stored = read?;
+    let extent = Extent::of(&stored.sheet());
+    section.put(side, stored);
+    Ok(extent)
 }
 
 /// Prints every line with its number and its ending.
 pub fn list<S: Sheet>(rt: &HostRuntime, sheet: &S) -> io::Result<Outcome> {
-    told(rt, sheet)?;
-    for n in 0..sheet.count() {
-        if let Some(line) = sheet.line(n) {
-            let ending = ending_word(line);
-            print!(rt; "{n:>6}  {ending:<5}  ")?;
-            show_line(rt, line)?;
-        }
+    println!(rt; "{}", Extent::of(sheet))?;
+    for (n, line) in sheet.lines().enumerate() {
+        let ending = ending_word(line);
+        print!(rt; "{n:>6}  {ending:<5}  ")?;
+        show_line(rt, line)?;
     }
     Ok(Outcome::Done)
 }
@@ -65,9 +65,7 @@ pub fn show_row<S: Sheet>(rt: &HostRuntime, sheet: &S, row: u32) -> io::Result<O
 /// Gives a sink every line of a sheet. The sheet's length is announced, so none is refused.
 fn copy<S: Sheet, K: Sink>(sheet: &S, sink: &mut K) {
     let _ = sink.begin(bytes_in(sheet) as usize);
-    for n in 0..sheet.count() {
-        if let Some(line) = sheet.line(n) {
-            let _ = sink.take(Piece::Common(line));
-        }
+    for line in sheet.lines() {
+        let _ = sink.take(Piece::Common(line));
     }
 }

@@ -41,29 +41,22 @@ impl Stored {
 
     fn read_text(heap: Global, text: Vec<u8>) -> Result<Result<Stored, SheetRefusal>, AllocError> {
         let mut starts = vec![in heap; 0u32; MAX_LINES as usize]?;
-        Ok(match split(&text, &mut starts) {
-            Ok(_) => Ok(Stored::Text { text, starts }),
-            Err(refusal) => Err(refusal),
-        })
+        Ok(split(&text, &mut starts).map(|_| Stored::Text { text, starts }))
     }
 
     fn read_cells(memory: Vec<u8>) -> Result<Stored, SheetRefusal> {
-        CellSheet::empty().open(&memory)?;
+        CellSheet::new(&memory)?;
         Ok(Stored::Cells(memory))
     }
 
-    /// The sheet in the bytes. They were a sheet when they were read, so none of them is refused here.
+    /// The sheet in the bytes. They were a sheet when they were read; any others would be a sheet of no lines.
     pub fn sheet(&self) -> FileSheet<'_> {
         match self {
             Stored::Text { text, starts } => {
-                let mut sheet = TextSheet::empty();
-                let _ = sheet.open(text, starts);
-                FileSheet::Text(sheet)
+                FileSheet::Text(TextSheet::new(text, starts).unwrap_or(TextSheet::empty()))
             }
             Stored::Cells(memory) => {
-                let mut sheet = CellSheet::empty();
-                let _ = sheet.open(memory);
-                FileSheet::Cells(sheet)
+                FileSheet::Cells(CellSheet::new(memory).unwrap_or(CellSheet::empty()))
             }
         }
     }

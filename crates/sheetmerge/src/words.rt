@@ -1,4 +1,55 @@
-//! A line's ending in words.
+//! What the program says of sheets, counts and lines.
+use job::command::LineCounts;
+use sheet::sheet::Sheet;
+use sheet::total::bytes_in;
+use std::fmt;
+
+/// How many lines and bytes a sheet has.
+#[derive(Clone, Copy)]
+pub struct Extent {
+    lines: u32,
+    bytes: u32,
+}
+
+impl Extent {
+    pub fn of<S: Sheet>(sheet: &S) -> Extent {
+        Extent {
+            lines: sheet.count(),
+            bytes: bytes_in(sheet),
+        }
+    }
+}
+
+impl fmt::Display for Extent {
+    fn fmt<W: fmt::Write>(&self, f: &mut fmt::Formatter<W>) -> fmt::Result {
+        write!(f, "{} lines, {} bytes", self.lines, self.bytes)
+    }
+}
+
+/// The counts that a table was opened by.
+#[derive(Clone, Copy)]
+pub struct Opened(pub LineCounts);
+
+impl fmt::Display for Opened {
+    fn fmt<W: fmt::Write>(&self, f: &mut fmt::Formatter<W>) -> fmt::Result {
+        let LineCounts {
+            ancestor,
+            current,
+            other,
+        } = self.0;
+        write!(f, "{ancestor}, {current} and {other} lines, no hunks held")
+    }
+}
+
+/// How many hunks a table holds of the side that was changed.
+#[derive(Clone, Copy)]
+pub struct Held(pub usize);
+
+impl fmt::Display for Held {
+    fn fmt<W: fmt::Write>(&self, f: &mut fmt::Formatter<W>) -> fmt::Result {
+        write!(f, "{} held of the side", self.0)
+    }
+}
 
 /// How a line ends, in a column of its own.
 pub fn ending_word(line: &[u8]) -> &'static str {

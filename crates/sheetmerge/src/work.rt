@@ -1,12 +1,14 @@
 //! What each command does.
-use crate::report::{echo, show_line};
+use crate::report::{echo, show_line, tell};
 use crate::sheets::{list, show_row, take_in};
 use crate::store::Section;
-use crate::table::{list_held, open, tell_held};
+use crate::table::list_held;
+use crate::words::{Held, Opened};
 use hunks::table::HunkTable;
-use job::command::Command;
+use job::command::{Command, LineCounts};
 use job::outcome::{Outcome, Summary, sum_up};
 use job::read::read_command;
+use rules::refusal::TableRefusal;
 use std::alloc::Global;
 use std::io;
 
@@ -59,13 +61,18 @@ impl Unit {
             Command::Sheet { side, kind, path } => take_in(rt, section, side, kind, path),
             Command::Lines(side) => list(rt, &section.of(side).sheet()),
             Command::Row { side, row } => show_row(rt, &section.of(side).sheet(), row),
-            Command::Open => open(rt, table, section.counts()),
-            Command::OpenBy(counts) => open(rt, table, counts),
-            Command::Enter(hunk) => tell_held(rt, table.enter(hunk)),
-            Command::Withdraw(side) => tell_held(rt, table.withdraw(side)),
+            Command::Open => tell(rt, open(table, section.counts())),
+            Command::OpenBy(counts) => tell(rt, open(table, counts)),
+            Command::Enter(hunk) => tell(rt, table.enter(hunk).map(Held)),
+            Command::Withdraw(side) => tell(rt, table.withdraw(side).map(Held)),
             Command::Held => list_held(rt, table),
         }
     }
+}
+
+fn open(table: &mut HunkTable, counts: LineCounts) -> Result<Opened, TableRefusal> {
+    table.open(counts.ancestor, counts.current, counts.other)?;
+    Ok(Opened(counts))
 }
 
 const HELP: &str = "\
