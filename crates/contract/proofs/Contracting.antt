@@ -8,7 +8,10 @@ use Rattle.rules.specs.declared.hunk.Side.{Side}
 use Rattle.rules.specs.declared.hunk.Side.TheVariants.{Current, Other, Ancestor}
 use Rattle.rules.specs.declared.hunk.Span.{Span}
 use Rattle.rules.specs.declared.hunk.Hunk.{Hunk}
-use Rattle.contract.specs.Places.{ahead_at, front_place, back_place, behind_at, Placed}
+use Rattle.contract.specs.declared.place.Ahead.{Ahead}
+use Rattle.contract.specs.declared.place.Ahead.TheVariants.{Leaves, Stays}
+use Rattle.contract.specs.declared.place.Place.{Place}
+use Rattle.contract.specs.Places.{place_of, place, ahead_at, behind_at, Placed}
 use Rattle.contract.specs.Ends.{removed_of, counts_of}
 use Rattle.rules.specs.Contraction.{Readable}
 use Rattle.reading.specs.Reading.{no_hunk}
@@ -17,7 +20,7 @@ use Rattle.rules.specs.Hunks.{Sheets, side_lines, sheet_of}
 use Rattle.rules.specs.Lines.{Line}
 use Rattle.rules.specs.SharedLines.{shared_front, shared_back}
 use Rattle.rules.proofs.Shared.{front_le}
-use Rattle.contract.proofs.Places.{CutAt, front_cut, back_cut, front_placed, back_placed}
+use Rattle.contract.proofs.Places.{CutAt, cut, cut_at, placed}
 use Rattle.contract.proofs.Cutting.{placed_inside, ahead_few, behind_length}
 
 readable_by : (s : Sheets) (sd : Side) (h : Hunk) (r : Span) → r.end ≤ length (sheet_of s sd) → Readable s (reading sd h r)
@@ -32,39 +35,35 @@ nonzero : (m : ℕ) → eqb m 0 ≡ false → 0 < m
 nonzero zero z = let u : ◌≡◌ {A = ℕ} 0 1 = cc in absurd (omega arith)
 nonzero (suc m) z = omega arith
 
-readable_behind : (s : Sheets) (w k : ℕ) (hs : List Hunk) → Placed w k hs → AllByRecursion (Readable s) hs → AllByRecursion (Readable s) (behind_at w k hs)
+readable_behind : (s : Sheets) (w k : ℕ) (hs : List Hunk) → Placed (place_of w k) hs → AllByRecursion (Readable s) hs → AllByRecursion (Readable s) (behind_at (place_of w k) hs)
 readable_behind s w k hs p r =
     cond_both (eqb k 0) (drop w hs) (later_lines k (get_or hs w no_hunk) ∷ drop (suc w) hs) (AllByRecursion (Readable s)) (λ e. All-drop (Readable s) w hs r)
     (λ e. (readable_later s k (get_or hs w no_hunk) (All-get_or (Readable s) hs w no_hunk (placed_inside w k hs p (nonzero k e)) r), All-drop (Readable s) (suc w) hs r))
 
 pub readable_cut : (s : Sheets) (n : ℕ) (hs gs : List Hunk) → gs ≡ (cut_front n hs).behind → AllByRecursion (Readable s) hs → AllByRecursion (Readable s) gs
 readable_cut s n hs gs e r =
-    subst (AllByRecursion (Readable s)) (sym (e ∙ (front_cut n hs).behind)) (readable_behind s (front_place n hs).0 (front_place n hs).1 hs (front_placed n hs) r)
+    subst (AllByRecursion (Readable s)) (sym (e ∙ (cut_at Leaves n hs).behind)) (readable_behind s (place Leaves n hs).whole (place Leaves n hs).lines hs (placed Leaves n hs) r)
 
 pub front_few : (n : ℕ) (hs : List Hunk) → length (cut_front n hs).ahead + length (cut_front n hs).behind ≤ length hs + 1
 front_few n hs =
-    let p = front_place n hs in
-    let q = front_placed n hs in
-    let a = ap length (front_cut n hs).ahead in
-    let b = ap length (front_cut n hs).behind ∙ behind_length p.0 p.1 hs q in
-    let c = ahead_few p.0 p.1 hs q.hunks in
+    let p = place Leaves n hs in
+    let q = placed Leaves n hs in
+    let a = ap length (cut_at Leaves n hs).ahead in
+    let b = ap length (cut_at Leaves n hs).behind ∙ behind_length p.whole p.lines hs q in
+    let c = ahead_few p.whole p.lines hs q.hunks in
     let d = q.hunks in
     omega arith
 
 pub back_few : (n : ℕ) (hs : List Hunk) → length (cut_back n hs).behind ≤ length hs
 back_few n hs =
-    let p = back_place n hs in
-    let b = ap length (back_cut n hs).behind ∙ behind_length p.0 p.1 hs (back_placed n hs) in
+    let p = place Stays n hs in
+    let b = ap length (cut_at Stays n hs).behind ∙ behind_length p.whole p.lines hs (placed Stays n hs) in
     omega arith
 
--- the places of a cut
-pub front_behind : (n : ℕ) (hs : List Hunk) (p : ℕ × ℕ) → p ≡ front_place n hs → Placed p.0 p.1 hs × CutAt (cut_front n hs) p hs
-front_behind n hs p e =
-    (subst (λ (q : ℕ × ℕ). Placed q.0 q.1 hs) (sym e) (front_placed n hs), subst (λ (q : ℕ × ℕ). CutAt (cut_front n hs) q hs) (sym e) (front_cut n hs))
-
-pub back_behind : (n : ℕ) (hs : List Hunk) (p : ℕ × ℕ) → p ≡ back_place n hs → Placed p.0 p.1 hs × CutAt (cut_back n hs) p hs
-back_behind n hs p e =
-    (subst (λ (q : ℕ × ℕ). Placed q.0 q.1 hs) (sym e) (back_placed n hs), subst (λ (q : ℕ × ℕ). CutAt (cut_back n hs) q hs) (sym e) (back_cut n hs))
+-- the place of a cut
+pub at_place : (a : Ahead) (n : ℕ) (hs : List Hunk) (p : Place) → p ≡ place a n hs → Placed p hs × CutAt (cut a n hs) p hs
+at_place a n hs p e =
+    (subst (λ (q : Place). Placed q hs) (sym e) (placed a n hs), subst (λ (q : Place). CutAt (cut a n hs) q hs) (sym e) (cut_at a n hs))
 
 -- no more lines are shared than there are
 pub shared_back_few : (xs ys : List Line) → (shared_back xs ys ≤ length xs) × (shared_back xs ys ≤ length ys)
@@ -115,7 +114,7 @@ readable_first s n h le pos r =
     let e : (read_range h.side h).end ≤ length (sheet_of s h.side) = r in
     readable_by s h.side h (record { start = (read_range h.side h).start; end = (read_range h.side h).start + n }) (omega arith)
 
-readable_ahead : (s : Sheets) (w k : ℕ) (hs : List Hunk) → Placed w k hs → AllByRecursion (Readable s) hs → AllByRecursion (Readable s) (ahead_at w k hs)
+readable_ahead : (s : Sheets) (w k : ℕ) (hs : List Hunk) → Placed (place_of w k) hs → AllByRecursion (Readable s) hs → AllByRecursion (Readable s) (ahead_at (place_of w k) hs)
 readable_ahead s w k hs p r =
     cond_both (eqb k 0) (take w hs) (take w hs ++ (first_lines k (get_or hs w no_hunk) ∷ [])) (AllByRecursion (Readable s)) (λ e. All-take (Readable s) w hs r)
     (λ e. All-push (Readable s) (take w hs) _ (All-take (Readable s) w hs r) (readable_first s k (get_or hs w no_hunk) p.lines (nonzero k e) (All-get_or (Readable s) hs w no_hunk (placed_inside w k hs p (nonzero k e)) r)))
@@ -127,13 +126,13 @@ pub record Readables (s : Sheets) (c : Contracted) : Type 0 where
   pub back : AllByRecursion (Readable s) c.back
 
 front_ahead_readable : (s : Sheets) (n : ℕ) (hs : List Hunk) → AllByRecursion (Readable s) hs → AllByRecursion (Readable s) (cut_front n hs).ahead
-front_ahead_readable s n hs r = subst (AllByRecursion (Readable s)) (sym (front_cut n hs).ahead) (readable_ahead s (front_place n hs).0 (front_place n hs).1 hs (front_placed n hs) r)
+front_ahead_readable s n hs r = subst (AllByRecursion (Readable s)) (sym (cut_at Leaves n hs).ahead) (readable_ahead s (place Leaves n hs).whole (place Leaves n hs).lines hs (placed Leaves n hs) r)
 
 back_ahead_readable : (s : Sheets) (n : ℕ) (hs : List Hunk) → AllByRecursion (Readable s) hs → AllByRecursion (Readable s) (cut_back n hs).ahead
-back_ahead_readable s n hs r = subst (AllByRecursion (Readable s)) (sym (back_cut n hs).ahead) (readable_ahead s (back_place n hs).0 (back_place n hs).1 hs (back_placed n hs) r)
+back_ahead_readable s n hs r = subst (AllByRecursion (Readable s)) (sym (cut_at Stays n hs).ahead) (readable_ahead s (place Stays n hs).whole (place Stays n hs).lines hs (placed Stays n hs) r)
 
 back_behind_readable : (s : Sheets) (n : ℕ) (hs : List Hunk) → AllByRecursion (Readable s) hs → AllByRecursion (Readable s) (cut_back n hs).behind
-back_behind_readable s n hs r = subst (AllByRecursion (Readable s)) (sym (back_cut n hs).behind) (readable_behind s (back_place n hs).0 (back_place n hs).1 hs (back_placed n hs) r)
+back_behind_readable s n hs r = subst (AllByRecursion (Readable s)) (sym (cut_at Stays n hs).behind) (readable_behind s (place Stays n hs).whole (place Stays n hs).lines hs (placed Stays n hs) r)
 
 pub readables : (s : Sheets) (a b : List Hunk) → AllByRecursion (Readable s) a → AllByRecursion (Readable s) b → Readables s (contracted s a b)
 readables s a b ra rb =

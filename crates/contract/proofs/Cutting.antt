@@ -1,16 +1,16 @@
 -- Lists that are cut in their place.
-use Rattle.std.proofs.Common.{◌≡◌, ℕ, zero, suc, ◌+◌, ◌-◌, ◌<◌, ◌≤◌, Bool, true, false, cond, eqb, List, [], ◌∷◌, ◌++◌, length, get_or, take, drop, set, Some, None, sym, refl, ap, ◌∙◌, ap₂, ⊎_elim, add-one, arith}
-use Rattle.std.proofs.lemmas.List.{append_assoc, length-append, length-take-le, length-drop, take_more, drop_more, get_or-take, set_at, take_rest}
+use Rattle.std.proofs.Common.{◌≡◌, ℕ, zero, suc, ◌+◌, ◌-◌, ◌<◌, ◌≤◌, Bool, true, false, cond, eqb, List, [], ◌∷◌, ◌++◌, length, get_or, take, drop, set, Some, None, sym, refl, ap, ◌∙◌, ap₂, ⊎_elim, arith}
+use Rattle.std.proofs.lemmas.List.{length-append, length-take-le, length-drop, take_more, get_or-take, set_at}
 use Rattle.std.proofs.lemmas.Option.{slice_get-get_or, slice_get_past}
 use Rattle.std.specs.List.{slice_get}
-use Rattle.std.proofs.lemmas.Bool.{cases_lt, ne_eqb, eq-eqb, cond-true, cond-false, cond_both}
+use Rattle.std.proofs.lemmas.Bool.{cases_lt, ne_eqb, cond-false, cond_both}
 use Rattle.rules.specs.declared.hunk.Hunk.{Hunk}
-use Rattle.contract.specs.Places.{ahead_at, behind_at, Placed}
+use Rattle.contract.specs.Places.{place_of, ahead_at, behind_at, Placed}
 use Rattle.reading.specs.Reading.{no_hunk}
 use Rattle.rules.specs.Contraction.{first_lines, later_lines}
 use Rattle.reading.proofs.Backs.{inside}
 
-pub placed_inside : (w k : ℕ) (hs : List Hunk) → Placed w k hs → 0 < k → w < length hs
+pub placed_inside : (w k : ℕ) (hs : List Hunk) → Placed (place_of w k) hs → 0 < k → w < length hs
 placed_inside w k hs p pos = inside hs w k pos p.lines
 
 -- a hunk that is lent stands in its place, and one is lent wherever there is one
@@ -24,19 +24,10 @@ lent_none hs i e =
     ⊎_elim (λ (lt : i < length hs). let z = e ∙ slice_get-get_or hs i no_hunk lt in let u : ◌≡◌ {A = ℕ} 0 1 = cc in absurd (omega arith)) (λ (le : length hs ≤ i). le)
     (cases_lt i (length hs))
 
-pub ahead_some : (w k : ℕ) (hs : List Hunk) → 0 < k → ahead_at w k hs ≡ take w hs ++ (first_lines k (get_or hs w no_hunk) ∷ [])
+pub ahead_some : (w k : ℕ) (hs : List Hunk) → 0 < k → ahead_at (place_of w k) hs ≡ take w hs ++ (first_lines k (get_or hs w no_hunk) ∷ [])
 ahead_some w k hs pos = cond-false (eqb k 0) (take w hs) (take w hs ++ (first_lines k (get_or hs w no_hunk) ∷ [])) (ne_eqb k 0 (λ z. omega arith))
 
-pub ahead_none : (w k : ℕ) (hs : List Hunk) → k ≡ 0 → ahead_at w k hs ≡ take w hs
-ahead_none w k hs z = cond-true (eqb k 0) (take w hs) (take w hs ++ (first_lines k (get_or hs w no_hunk) ∷ [])) (eq-eqb k 0 z)
-
-pub behind_some : (w k : ℕ) (hs : List Hunk) → 0 < k → behind_at w k hs ≡ later_lines k (get_or hs w no_hunk) ∷ drop (suc w) hs
-behind_some w k hs pos = cond-false (eqb k 0) (drop w hs) (later_lines k (get_or hs w no_hunk) ∷ drop (suc w) hs) (ne_eqb k 0 (λ z. omega arith))
-
-pub behind_none : (w k : ℕ) (hs : List Hunk) → k ≡ 0 → behind_at w k hs ≡ drop w hs
-behind_none w k hs z = cond-true (eqb k 0) (drop w hs) (later_lines k (get_or hs w no_hunk) ∷ drop (suc w) hs) (eq-eqb k 0 z)
-
-pub ahead_cut : (w k : ℕ) (hs ts us : List Hunk) (x y : Hunk) → w < length hs → 0 < k → ts ≡ take (w + 1) hs → y ≡ get_or ts w no_hunk → x ≡ first_lines k y → us ≡ set ts w x → us ≡ ahead_at w k hs
+pub ahead_cut : (w k : ℕ) (hs ts us : List Hunk) (x y : Hunk) → w < length hs → 0 < k → ts ≡ take (w + 1) hs → y ≡ get_or ts w no_hunk → x ≡ first_lines k y → us ≡ set ts w x → us ≡ ahead_at (place_of w k) hs
 ahead_cut w k hs ts us x y lt pos et ey ex eu =
     let h = get_or hs w no_hunk in
     let t : ts ≡ take w hs ++ (h ∷ []) = et ∙ take_more hs w no_hunk lt in
@@ -44,33 +35,12 @@ ahead_cut w k hs ts us x y lt pos et ey ex eu =
     let l : length (take w hs) ≡ w = length-take-le w hs (omega arith) in
     eu ∙ (ap₂ (λ (v : List Hunk) (z : Hunk). set v w z) t (ex ∙ ap (first_lines k) yh) ∙ (set_at (take w hs) h [] (first_lines k h) w l ∙ sym (ahead_some w k hs pos)))
 
-pub lent_ahead : (w : ℕ) (hs ts : List Hunk) (y : Hunk) → w < length hs → ts ≡ take (w + 1) hs → y ≡ get_or ts w no_hunk → y ≡ get_or hs w no_hunk
-lent_ahead w hs ts y lt et ey = ey ∙ (ap (λ (v : List Hunk). get_or v w no_hunk) et ∙ get_or-take (w + 1) hs w no_hunk (omega arith))
-
-pub first_dropped : (w : ℕ) (hs ts : List Hunk) → w < length hs → ts ≡ drop w hs → ts ≡ get_or hs w no_hunk ∷ drop (suc w) hs
-first_dropped w hs ts lt e = e ∙ (drop_more hs w no_hunk lt ∙ ap (λ n. get_or hs w no_hunk ∷ drop n hs) (add-one w))
-
-pub lent_behind : (w : ℕ) (hs ts : List Hunk) (y : Hunk) → w < length hs → ts ≡ drop w hs → y ≡ get_or ts 0 no_hunk → y ≡ get_or hs w no_hunk
-lent_behind w hs ts y lt et ey = ey ∙ ap (λ (v : List Hunk). get_or v 0 no_hunk) (first_dropped w hs ts lt et)
-
-pub behind_cut : (w k : ℕ) (hs ts us : List Hunk) (x y : Hunk) → w < length hs → 0 < k → ts ≡ drop w hs → y ≡ get_or ts 0 no_hunk → x ≡ later_lines k y → us ≡ set ts 0 x → us ≡ behind_at w k hs
-behind_cut w k hs ts us x y lt pos et ey ex eu =
-    let yh = lent_behind w hs ts y lt et ey in
-    eu ∙ (ap₂ (λ (v : List Hunk) (z : Hunk). set v 0 z) (first_dropped w hs ts lt et) (ex ∙ ap (later_lines k) yh) ∙ sym (behind_some w k hs pos))
-
--- lengths
-pub ahead_room : (w k : ℕ) (hs : List Hunk) → length (take w hs) ≤ length (ahead_at w k hs)
-ahead_room w k hs = cond_both (eqb k 0) (take w hs) (take w hs ++ (first_lines k (get_or hs w no_hunk) ∷ [])) (λ (v : List Hunk). length (take w hs) ≤ length v) (λ e. omega arith) (λ e. omega (arith, length-append (take w hs) (first_lines k (get_or hs w no_hunk) ∷ [])))
-
-pub ahead_room_some : (w k : ℕ) (hs : List Hunk) → 0 < k → length (ahead_at w k hs) ≡ length (take w hs) + 1
-ahead_room_some w k hs pos = ap length (ahead_some w k hs pos) ∙ length-append (take w hs) (first_lines k (get_or hs w no_hunk) ∷ [])
-
-pub ahead_few : (w k : ℕ) (hs : List Hunk) → w ≤ length hs → length (ahead_at w k hs) ≤ w + 1
+pub ahead_few : (w k : ℕ) (hs : List Hunk) → w ≤ length hs → length (ahead_at (place_of w k) hs) ≤ w + 1
 ahead_few w k hs le =
     let l = length-take-le w hs le in
     cond_both (eqb k 0) (take w hs) (take w hs ++ (first_lines k (get_or hs w no_hunk) ∷ [])) (λ (v : List Hunk). length v ≤ w + 1) (λ e. omega arith) (λ e. omega (arith, length-append (take w hs) (first_lines k (get_or hs w no_hunk) ∷ [])))
 
-pub behind_length : (w k : ℕ) (hs : List Hunk) → Placed w k hs → length (behind_at w k hs) ≡ length hs - w
+pub behind_length : (w k : ℕ) (hs : List Hunk) → Placed (place_of w k) hs → length (behind_at (place_of w k) hs) ≡ length hs - w
 behind_length w k hs p =
     let d = length-drop w hs in
     let f = length-drop (suc w) hs in
@@ -83,24 +53,3 @@ behind_length w k hs p =
         nonzero : (m : ℕ) → eqb m 0 ≡ false → 0 < m
         nonzero zero z = let u : ◌≡◌ {A = ℕ} 0 1 = cc in absurd (omega arith)
         nonzero (suc m) z = omega arith
-
--- additions
-pub pushed_ahead : (w k : ℕ) (hs p q r : List Hunk) (x : Hunk) → 0 < k → q ≡ p ++ take w hs → x ≡ first_lines k (get_or hs w no_hunk) → r ≡ q ++ (x ∷ []) → r ≡ p ++ ahead_at w k hs
-pushed_ahead w k hs p q r x pos eq ex er =
-    er ∙ (ap₂ (λ (v : List Hunk) (z : Hunk). v ++ (z ∷ [])) eq ex ∙ (append_assoc p (take w hs) (first_lines k (get_or hs w no_hunk) ∷ []) ∙ ap (λ (v : List Hunk). p ++ v) (sym (ahead_some w k hs pos))))
-
-pub pushed_ahead_none : (w k : ℕ) (hs p q : List Hunk) → k ≡ 0 → q ≡ p ++ take w hs → q ≡ p ++ ahead_at w k hs
-pushed_ahead_none w k hs p q z eq = eq ∙ ap (λ (v : List Hunk). p ++ v) (sym (ahead_none w k hs z))
-
-rest_of : (n : ℕ) (hs ts : List Hunk) → ts ≡ take (length hs - n) (drop n hs) → ts ≡ drop n hs
-rest_of n hs ts e = e ∙ take_rest hs n
-
-pub pushed_behind : (w k : ℕ) (hs p q r : List Hunk) (x : Hunk) → 0 < k → q ≡ p ++ (x ∷ []) → x ≡ later_lines k (get_or hs w no_hunk) → r ≡ q ++ take (length hs - (w + 1)) (drop (w + 1) hs) → r ≡ p ++ behind_at w k hs
-pushed_behind w k hs p q r x pos eq ex er =
-    let t : take (length hs - (w + 1)) (drop (w + 1) hs) ≡ drop (suc w) hs = take_rest hs (w + 1) ∙ ap (λ n. drop n hs) (add-one w) in
-    er ∙ (ap₂ (λ (v u : List Hunk). v ++ u) eq t
-    ∙ (append_assoc p (x ∷ []) (drop (suc w) hs)
-    ∙ (ap (λ (z : Hunk). p ++ (z ∷ drop (suc w) hs)) ex ∙ ap (λ (v : List Hunk). p ++ v) (sym (behind_some w k hs pos)))))
-
-pub pushed_behind_none : (w k : ℕ) (hs p q : List Hunk) → k ≡ 0 → q ≡ p ++ take (length hs - w) (drop w hs) → q ≡ p ++ behind_at w k hs
-pushed_behind_none w k hs p q z eq = eq ∙ ap (λ (v : List Hunk). p ++ v) (take_rest hs w ∙ sym (behind_none w k hs z))

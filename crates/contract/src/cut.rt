@@ -23,13 +23,8 @@ pub fn keep_lines(hunk: &mut Hunk, n: u32)
     ensures { hunk.new ≡ first_lines n hunk.old }
 {
     let read = read_range(*hunk);
-    read_instead(
-        hunk,
-        Span {
-            start: read.start,
-            end: read.start + n,
-        },
-    );
+    let end = read.start + n;
+    read_instead(hunk, Span { end, ..read });
 }
 
 /// The first `n` lines leave.
@@ -38,11 +33,6 @@ pub fn drop_lines(hunk: &mut Hunk, n: u32)
     ensures { hunk.new ≡ later_lines n hunk.old }
 {
     let read = read_range(*hunk);
-    read_instead(
-        hunk,
-        Span {
-            start: read.start + n,
-            end: read.end,
-        },
-    );
+    let start = read.start + n;
+    read_instead(hunk, Span { start, ..read });
 }

@@ -1,39 +1,52 @@
 ghost use Rattle.std.specs.Prelude.{◌≡◌, ℕ};
-ghost use Rattle.contract.specs.Places.{front_place, back_place};
+ghost use Rattle.contract.specs.Places.{passes, place};
 
 use reading::hunk::lines_of;
 use rules::hunk::Hunk;
 
-/// Where the first `n` lines end, if they leave: the whole hunks ahead, and the lines of the next one.
-pub fn front_place(hunks: &[Hunk], n: u32) -> (usize, u32)
-    ensures { result ≡ front_place n hunks.now }
-{
-    let mut rest = n;
-    let mut whole = 0;
-    for hunk in hunks {
-        let lines = lines_of(*hunk);
-        if lines > rest || rest == 0 {
-            return (whole, rest);
-        }
-        rest -= lines;
-        whole += 1;
-    }
-    (whole, 0)
+/// What becomes of the lines ahead of a cut. A hunk without lines that follows them stays: behind the cut if they leave, with them if they stay.
+#[derive(Clone, Copy, PartialEq, Eq, Debug)]
+pub enum Ahead {
+    Leaves,
+    Stays,
 }
 
-/// Where the first `n` lines end, if they stay.
-pub fn back_place(hunks: &[Hunk], n: u32) -> (usize, u32)
-    ensures { result ≡ back_place n hunks.now }
-{
-    let mut rest = n;
-    let mut whole = 0;
-    for hunk in hunks {
-        let lines = lines_of(*hunk);
-        if lines > rest {
-            return (whole, rest);
+impl Ahead {
+    // Whether a cut behind `n` more lines falls behind the hunk.
+    fn passes(self, n: u32, hunk: Hunk) -> bool
+        ensures { result ≡ passes self n hunk }
+    {
+        match self {
+            Ahead::Leaves => lines_of(hunk) <= n && n > 0,
+            Ahead::Stays => lines_of(hunk) <= n,
         }
-        rest -= lines;
-        whole += 1;
     }
-    (whole, 0)
+}
+
+/// Where a cut falls in a list of hunks: so many whole hunks ahead of it, and so many lines of the next one.
+#[derive(Clone, Copy, PartialEq, Eq, Debug)]
+pub struct Place {
+    pub whole: usize,
+    pub lines: u32,
+}
+
+impl Place {
+    #[tactic(auto, using(crate::proofs::Places::past, crate::proofs::Places::halt, crate::proofs::Places::end))]
+    /// The place behind the first `n` lines.
+    pub fn behind(n: u32, hunks: &[Hunk], ahead: Ahead) -> Place
+        ensures { result ≡ place ahead n hunks.now }
+    {
+        // Stays: what is left of the lines decides where the cut falls, so it is counted down.
+        let mut rest = n;
+        for (whole, hunk) in hunks.iter().enumerate() {
+            if !ahead.passes(rest, *hunk) {
+                return Place { whole, lines: rest };
+            }
+            rest -= lines_of(*hunk);
+        }
+        Place {
+            whole: hunks.len(),
+            lines: 0,
+        }
+    }
 }

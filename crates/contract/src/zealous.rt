@@ -2,7 +2,6 @@ ghost use Rattle.std.specs.Prelude.{◌≡◌, ℕ, ◌+◌, ◌≤◌, ◌++◌
 ghost use Rattle.std.specs.List.{AllByRecursion};
 ghost use Rattle.rules.specs.Limits.{max_filled, max_removed};
 ghost use Rattle.rules.specs.Contraction.{contracted};
-ghost use Rattle.hunks.specs.Lists.{held};
 ghost use Rattle.rules.specs.Contraction.{Readable};
 ghost use Rattle.contract.specs.Ends.{shared_front_cut, shared_back_cut, removed_of, counts_of};
 
@@ -20,12 +19,12 @@ fn contract_front<T: ThreeSheets>(
     facing: &mut HunkList<MAX_FILLED>,
     removed: &mut HunkList<MAX_REMOVED>,
 )
-    requires ours { AllByRecursion (Readable (T.ThreeSheets.sheets three.now)) (held lead.old) }
-    requires theirs { AllByRecursion (Readable (T.ThreeSheets.sheets three.now)) (held facing.old) }
-    ensures few { length (held lead.old) ≤ max_filled }
-    ensures lead { held lead.new ≡ (shared_front_cut (T.ThreeSheets.sheets three.now) (held lead.old) (held facing.old) (held lead.old)).behind }
-    ensures facing { held facing.new ≡ (shared_front_cut (T.ThreeSheets.sheets three.now) (held lead.old) (held facing.old) (held facing.old)).behind }
-    ensures removed { held removed.new ≡ (shared_front_cut (T.ThreeSheets.sheets three.now) (held lead.old) (held facing.old) (held lead.old)).ahead }
+    requires ours { AllByRecursion (Readable (T.ThreeSheets.sheets three.now)) lead.old }
+    requires theirs { AllByRecursion (Readable (T.ThreeSheets.sheets three.now)) facing.old }
+    ensures few { length lead.old ≤ max_filled }
+    ensures lead { lead.new ≡ (shared_front_cut (T.ThreeSheets.sheets three.now) lead.old facing.old lead.old).behind }
+    ensures facing { facing.new ≡ (shared_front_cut (T.ThreeSheets.sheets three.now) lead.old facing.old facing.old).behind }
+    ensures removed { removed.new ≡ (shared_front_cut (T.ThreeSheets.sheets three.now) lead.old facing.old lead.old).ahead }
 {
     let n = shared_front(three, lead.as_slice(), facing.as_slice());
     removed.truncate(0);
@@ -41,13 +40,14 @@ fn contract_back<T: ThreeSheets>(
     facing: &mut HunkList<MAX_FILLED>,
     removed: &mut HunkList<MAX_REMOVED>,
 )
-    requires ours { AllByRecursion (Readable (T.ThreeSheets.sheets three.now)) (held lead.old) }
-    requires theirs { AllByRecursion (Readable (T.ThreeSheets.sheets three.now)) (held facing.old) }
-    requires room { length (held removed.old) + length (held lead.old) ≤ max_removed }
-    ensures lead { held lead.new ≡ (shared_back_cut (T.ThreeSheets.sheets three.now) (held lead.old) (held facing.old) (held lead.old)).ahead }
-    ensures facing { held facing.new ≡ (shared_back_cut (T.ThreeSheets.sheets three.now) (held lead.old) (held facing.old) (held facing.old)).ahead }
-    ensures removed { held removed.new ≡ held removed.old ++ (shared_back_cut (T.ThreeSheets.sheets three.now) (held lead.old) (held facing.old) (held lead.old)).behind }
+    requires ours { AllByRecursion (Readable (T.ThreeSheets.sheets three.now)) lead.old }
+    requires theirs { AllByRecursion (Readable (T.ThreeSheets.sheets three.now)) facing.old }
+    requires room { length removed.old + length lead.old ≤ max_removed }
+    ensures lead { lead.new ≡ (shared_back_cut (T.ThreeSheets.sheets three.now) lead.old facing.old lead.old).ahead }
+    ensures facing { facing.new ≡ (shared_back_cut (T.ThreeSheets.sheets three.now) lead.old facing.old facing.old).ahead }
+    ensures removed { removed.new ≡ removed.old ++ (shared_back_cut (T.ThreeSheets.sheets three.now) lead.old facing.old lead.old).behind }
 {
+    // Stays: a twin of contract_front in its shape alone, since each call is another one.
     let n = shared_back(three, lead.as_slice(), facing.as_slice());
     let ours = count_lines(lead.as_slice()) - n;
     let theirs = count_lines(facing.as_slice()) - n;
@@ -65,12 +65,12 @@ pub fn zealously_contract_hunks<T: ThreeSheets>(
     facing: &mut HunkList<MAX_FILLED>,
     removed: &mut HunkList<MAX_REMOVED>,
 ) -> (usize, usize, usize)
-    requires ours { AllByRecursion (Readable (T.ThreeSheets.sheets three.now)) (held lead.old) }
-    requires theirs { AllByRecursion (Readable (T.ThreeSheets.sheets three.now)) (held facing.old) }
-    ensures lead { held lead.new ≡ (contracted (T.ThreeSheets.sheets three.now) (held lead.old) (held facing.old)).lead }
-    ensures facing { held facing.new ≡ (contracted (T.ThreeSheets.sheets three.now) (held lead.old) (held facing.old)).facing }
-    ensures removed { held removed.new ≡ removed_of (contracted (T.ThreeSheets.sheets three.now) (held lead.old) (held facing.old)) }
-    ensures counts { result ≡ counts_of (contracted (T.ThreeSheets.sheets three.now) (held lead.old) (held facing.old)) }
+    requires ours { AllByRecursion (Readable (T.ThreeSheets.sheets three.now)) lead.old }
+    requires theirs { AllByRecursion (Readable (T.ThreeSheets.sheets three.now)) facing.old }
+    ensures lead { lead.new ≡ (contracted (T.ThreeSheets.sheets three.now) lead.old facing.old).lead }
+    ensures facing { facing.new ≡ (contracted (T.ThreeSheets.sheets three.now) lead.old facing.old).facing }
+    ensures removed { removed.new ≡ removed_of (contracted (T.ThreeSheets.sheets three.now) lead.old facing.old) }
+    ensures counts { result ≡ counts_of (contracted (T.ThreeSheets.sheets three.now) lead.old facing.old) }
 {
     contract_front(three, lead, facing, removed);
     let in_front = removed.len();

@@ -17,7 +17,7 @@ fn push_stretch(list: &mut HunkList<MAX_FILLED>, from: u32, to: u32)
             start: from,
             end: to,
         };
-        list.push(Hunk {
+        let _ = list.push(Hunk {
             before: lines,
             after: lines,
             side: Side::Ancestor,
@@ -35,7 +35,7 @@ pub fn fill_ancestor(hunks: &[Hunk], range: Span, list: &mut HunkList<MAX_FILLED
     let mut at = range.start;
     for hunk in hunks {
         push_stretch(list, at, hunk.before.start);
-        list.push(*hunk);
+        let _ = list.push(*hunk);
         at = hunk.before.end;
     }
     push_stretch(list, at, range.end);

@@ -1,3 +1,2 @@
 pub mod Helds
 pub mod Entering
-pub mod Keeping

@@ -10,6 +10,10 @@ pub struct HunkList<const N: usize> {
     items: ArrayVec<Hunk, N>,
 }
 
+/// The list has no place for what was to be put into it.
+#[derive(Clone, Copy, PartialEq, Eq, Debug)]
+pub struct Full;
+
 // Clauses see the hunks held, in order.
 impl<const N: usize> Model for HunkList<N> {
     ghost use Rattle.std.specs.Prelude.{List};

@@ -1,5 +1,5 @@
 //! Any calls to a table, one after another.
-ghost use Rattle.hunks.specs.Tables.{model, call_of};
+ghost use Rattle.hunks.specs.Calls.{call_of};
 ghost use Rattle.rules.specs.Runs.{after_call, after_calls};
 ghost use Rattle.rules.specs.TableLaws.{TableKeeps};
 ghost use Rattle.std.specs.Prelude.{◌≡◌, map};
@@ -21,7 +21,7 @@ pub enum Call {
 
 // One call; what it answers is not kept.
 fn make(table: &mut HunkTable, call: Call)
-    ensures { model table.new ≡ after_call (model table.old) (call_of call) }
+    ensures { table.new ≡ after_call table.old (call_of call) }
 {
     match call {
         Call::Open {
@@ -42,10 +42,12 @@ fn make(table: &mut HunkTable, call: Call)
 
 /// Makes the calls in order; one that is refused changes nothing, and the next is made.
 pub fn run(table: &mut HunkTable, calls: &[Call])
-    ensures after { model table.new ≡ after_calls (model table.old) (map call_of calls.now) }
-    ensures keeps { TableKeeps (model table.new) }
+    ensures after { table.new ≡ after_calls table.old (map call_of calls.now) }
+    ensures keeps { TableKeeps table.new }
 {
     for call in calls {
         make(table, *call);
     }
+    // What every table keeps is told where one is read.
+    let _ = table.current();
 }

@@ -1,22 +1,35 @@
-ghost use Rattle.std.specs.Prelude.{◌≡◌, ℕ, ◌≤◌, true, length};
-ghost use Rattle.rules.specs.Limits.{max_lines, max_hunks};
-ghost use Rattle.rules.specs.Tables.{keeps};
-ghost use Rattle.rules.specs.declared.hunk.Side.TheVariants.{Current, Other};
-
 use crate::list::HunkList;
 use rules::limits::MAX_HUNKS;
+use std::marker::Model;
 
 mod ops;
+mod side;
 
-/// The line counts of the three sheets, and the hunks held of each side in the order of their enters.
+/// One side: the line count of its sheet, and the hunks held of it in the order of their enters.
+#[derive(Drop)]
+struct HeldSide {
+    lines: u32,
+    hunks: HunkList<MAX_HUNKS>,
+}
+
+/// The line counts of the three sheets, and the hunks held of the two sides.
 #[derive(Drop)]
 pub struct HunkTable {
     ancestor_lines: u32,
-    current_lines: u32,
-    other_lines: u32,
-    current: HunkList<MAX_HUNKS>,
-    other: HunkList<MAX_HUNKS>,
-    ghost few: { (ancestor_lines ≤ max_lines) × (current_lines ≤ max_lines) × (other_lines ≤ max_lines) },
-    ghost ours: { (keeps ancestor_lines current_lines Current current ≡ true) × (length current ≤ max_hunks) },
-    ghost theirs: { (keeps ancestor_lines other_lines Other other ≡ true) × (length other ≤ max_hunks) },
+    current: HeldSide,
+    other: HeldSide,
+}
+
+// Clauses see the table of the rules, which keeps what the rules say that every table keeps.
+impl Model for HunkTable {
+    ghost use Rattle.rules.specs.Tables.{Held};
+    ghost use Rattle.rules.specs.TableLaws.{TableKeeps};
+
+    ghost Value = { Held };
+
+    ghost use Rattle.hunks.specs.Tables.{table_of};
+
+    ghost view = { table_of };
+
+    ghost invariant = { λ t. TableKeeps (table_of t) };
 }

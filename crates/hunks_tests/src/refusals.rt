@@ -4,7 +4,6 @@ use hunks::table::HunkTable;
 use rules::hunk::{Hunk, Side};
 use rules::refusal::{Layer, Refusal, TableRefusal};
 use std::process::Abort;
-use std::test::Fail;
 
 // Counts 10, 8 and 6; current holds 2..3/2..4, other holds 0..0/0..1.
 fn table() -> HunkTable {
@@ -29,105 +28,80 @@ fn untouched(rt: &impl Abort, t: &HunkTable) {
     assert_eq!(rt; t.held(Side::Other, 0), Some(hunk(Side::Other, 0, 0, 0, 1)));
 }
 
-fn tells<T: Drop>(
-    rt: &impl Abort,
-    answer: Result<T, TableRefusal>,
-    n: u32,
-    p: u32,
-) -> Result<(), Fail> {
-    match answer {
-        Ok(_) => {
-            assert!(rt; false);
-            Ok(())
-        },
-        Err(refusal) => {
-            assert_eq!(rt; refusal.number(), n);
-            assert_eq!(rt; refusal.place(), p);
-            assert_eq!(rt; refusal.layer(), Layer::Table);
-            Ok(())
-        }
-    }
+// The answer is this refusal of the table, at this place.
+fn tells<T: Drop>(rt: &impl Abort, answer: Result<T, TableRefusal>, n: u32, p: u32) {
+    let told = answer.err().map(|refusal| (refusal.number(), refusal.layer(), refusal.place()));
+    assert_eq!(rt; told, Some((n, Layer::Table, p)));
 }
 
-fn refused_open(
-    rt: &impl Abort,
-    ancestor: u32,
-    current: u32,
-    other: u32,
-    p: u32,
-) -> Result<(), Fail> {
+fn refused_open(rt: &impl Abort, ancestor: u32, current: u32, other: u32, p: u32) {
     let mut t = table();
-    tells(rt, t.open(ancestor, current, other), 7, p)?;
+    tells(rt, t.open(ancestor, current, other), 7, p);
     untouched(rt, &t);
-    Ok(())
 }
 
-fn refused(rt: &impl Abort, hunk: Hunk, n: u32, p: u32) -> Result<(), Fail> {
+fn refused(rt: &impl Abort, hunk: Hunk, n: u32, p: u32) {
     let mut t = table();
-    tells(rt, t.enter(hunk), n, p)?;
+    tells(rt, t.enter(hunk), n, p);
     untouched(rt, &t);
-    Ok(())
 }
 
 #[test]
-fn seven(rt: HostRuntime) -> Result<(), Fail> {
-    refused_open(&rt, 4097, 0, 0, 0)?;
-    refused_open(&rt, 4096, 4097, 4097, 1)?;
-    refused_open(&rt, 4096, 4096, 4097, 2)?;
-    refused_open(&rt, u32::MAX, u32::MAX, u32::MAX, 0)?;
+fn seven(rt: HostRuntime) {
+    refused_open(&rt, 4097, 0, 0, 0);
+    refused_open(&rt, 4096, 4097, 4097, 1);
+    refused_open(&rt, 4096, 4096, 4097, 2);
+    refused_open(&rt, u32::MAX, u32::MAX, u32::MAX, 0);
     let mut t = table();
     assert!(rt; t.open(4096, 4096, 4096).is_ok());
-    Ok(())
 }
 
 #[test]
-fn eight(rt: HostRuntime) -> Result<(), Fail> {
-    refused(&rt, hunk(Side::Ancestor, 0, 1, 0, 1), 8, 0)?;
-    refused(&rt, hunk(Side::Ancestor, 9, 1, 9, 1), 8, 0)?;
+fn eight(rt: HostRuntime) {
+    refused(&rt, hunk(Side::Ancestor, 0, 1, 0, 1), 8, 0);
+    refused(&rt, hunk(Side::Ancestor, 9, 1, 9, 1), 8, 0);
     let mut t = table();
-    tells(&rt, t.withdraw(Side::Ancestor), 8, 0)?;
+    tells(&rt, t.withdraw(Side::Ancestor), 8, 0);
     untouched(&rt, &t);
-    Ok(())
 }
 
 #[test]
-fn ten(rt: HostRuntime) -> Result<(), Fail> {
-    refused(&rt, hunk(Side::Current, 6, 5, 6, 5), 10, 0)?;
-    refused(&rt, hunk(Side::Current, 5, 11, 5, 5), 10, 0)?;
-    refused(&rt, hunk(Side::Current, 5, 6, 6, 5), 10, 1)?;
-    refused(&rt, hunk(Side::Current, 5, 6, 5, 9), 10, 1)?;
-    refused(&rt, hunk(Side::Other, 5, 6, 5, 7), 10, 1)?;
-    refused(&rt, hunk(Side::Current, u32::MAX, u32::MAX, 0, 0), 10, 0)?;
-    refused(&rt, hunk(Side::Current, 0, u32::MAX, 0, 0), 10, 0)?;
-    refused(&rt, hunk(Side::Other, 5, 5, u32::MAX, u32::MAX), 10, 1)?;
-    refused(&rt, hunk(Side::Other, 5, 5, u32::MAX, 0), 10, 1)
+fn ten(rt: HostRuntime) {
+    refused(&rt, hunk(Side::Current, 6, 5, 6, 5), 10, 0);
+    refused(&rt, hunk(Side::Current, 5, 11, 5, 5), 10, 0);
+    refused(&rt, hunk(Side::Current, 5, 6, 6, 5), 10, 1);
+    refused(&rt, hunk(Side::Current, 5, 6, 5, 9), 10, 1);
+    refused(&rt, hunk(Side::Other, 5, 6, 5, 7), 10, 1);
+    refused(&rt, hunk(Side::Current, u32::MAX, u32::MAX, 0, 0), 10, 0);
+    refused(&rt, hunk(Side::Current, 0, u32::MAX, 0, 0), 10, 0);
+    refused(&rt, hunk(Side::Other, 5, 5, u32::MAX, u32::MAX), 10, 1);
+    refused(&rt, hunk(Side::Other, 5, 5, u32::MAX, 0), 10, 1);
 }
 
 #[test]
-fn eleven(rt: HostRuntime) -> Result<(), Fail> {
-    refused(&rt, hunk(Side::Current, 5, 5, 5, 5), 11, 0)?;
-    refused(&rt, hunk(Side::Other, 0, 0, 0, 0), 11, 0)
+fn eleven(rt: HostRuntime) {
+    refused(&rt, hunk(Side::Current, 5, 5, 5, 5), 11, 0);
+    refused(&rt, hunk(Side::Other, 0, 0, 0, 0), 11, 0);
 }
 
 #[test]
-fn twelve(rt: HostRuntime) -> Result<(), Fail> {
-    refused(&rt, hunk(Side::Current, 0, 1, 0, 1), 12, 0)?;
-    refused(&rt, hunk(Side::Current, 3, 4, 4, 5), 12, 0)?;
-    refused(&rt, hunk(Side::Current, 4, 5, 3, 5), 12, 0)?;
+fn twelve(rt: HostRuntime) {
+    refused(&rt, hunk(Side::Current, 0, 1, 0, 1), 12, 0);
+    refused(&rt, hunk(Side::Current, 3, 4, 4, 5), 12, 0);
+    refused(&rt, hunk(Side::Current, 4, 5, 3, 5), 12, 0);
     let mut t = table();
     assert!(rt; t.enter(hunk(Side::Current, 4, 5, 4, 5)).is_ok());
-    Ok(())
 }
 
 #[test]
-fn nine_and_thirteen(rt: HostRuntime) -> Result<(), Fail> {
+fn nine_and_thirteen(rt: HostRuntime) {
     let mut t = HunkTable::new();
-    tells(&rt, t.withdraw(Side::Current), 13, 0)?;
+    tells(&rt, t.withdraw(Side::Current), 13, 0);
     assert!(rt; t.open(4096, 1, 1).is_ok());
     for i in 0u32..256 {
         assert!(rt; t.enter(hunk(Side::Current, 2 * i, 2 * i + 1, 0, 0)).is_ok());
     }
-    tells(&rt, t.enter(hunk(Side::Current, 512, 513, 0, 1)), 9, 0)?;
-    tells(&rt, t.enter(hunk(Side::Current, 9, 1, 0, 1)), 9, 0)?;
-    tells(&rt, t.withdraw(Side::Other), 13, 0)
+    tells(&rt, t.enter(hunk(Side::Current, 512, 513, 0, 1)), 9, 0);
+    tells(&rt, t.enter(hunk(Side::Current, 9, 1, 0, 1)), 9, 0);
+    tells(&rt, t.withdraw(Side::Other), 13, 0);
 }

@@ -5,6 +5,7 @@ ghost use Rattle.rules.specs.declared.mode.Resolution.TheVariants.{Complete};
 ghost use Rattle.rules.specs.Renders.{size_answer};
 ghost use Rattle.rules.specs.RunAgreement.{AgreementOverRuns};
 ghost use Rattle.rules.specs.Verdict.{marked_verdict};
+ghost use Rattle.rules.specs.TableLaws.{TableKeeps};
 ghost use Rattle.hunks.specs.Tables.{model};
 ghost use Rattle.writing.specs.Marks.{labels_in};
 ghost use Rattle.merge.specs.Asking.{asked};
@@ -66,12 +67,14 @@ pub fn render<T: ThreeSheets, S: Sink>(
     ensures renders { Renders S.Sink (model table.now) (T.sheets three.now) (asked mode labels.entry (S.capacity sink.old)) sink.old sink.new result }
     ensures told { (v : Verdict) → result ≡ Ok v → RenderTold S.rule (S.fresh sink.old) (T.sheets three.now) (model table.now) (asked mode labels.entry (S.capacity sink.old)) v (sink_at S.Sink sink.new) }
     ensures law { AgreementOverRuns S.Value S.rule (S.fresh sink.old) S.Value S.rule (S.fresh sink.old) }
+    ensures keeps { TableKeeps (model table.now) }
 {
+    let (ours, theirs) = (table.current(), table.other());
     let needed = size(three, table, mode, labels)?;
     sink.begin(needed as usize).map_err(|TooLong { capacity }| RenderRefusal::SinkTooSmall {
         needed,
         capacity: capacity as u64,
     })?;
-    let marked = write_merge(three, mode, labels, table.current(), table.other(), sink);
+    let marked = write_merge(three, mode, labels, ours, theirs, sink);
     Ok(verdict_of(mode, marked))
 }

@@ -1,4 +1,5 @@
 //! Two units that render the same sheets, current on one being other on the second.
+ghost use Rattle.rules.specs.TableLaws.{TableKeeps};
 ghost use Rattle.hunks.specs.Tables.{model};
 ghost use Rattle.merge.specs.Asking.{asked};
 ghost use Rattle.merge.specs.Sinks.{Renders};
@@ -23,7 +24,8 @@ pub struct Unit<'a, T> {
 impl<'a, T: ThreeSheets> Unit<'a, T> {
     // The unit's render.
     fn render<S: Sink>(&self, mode: Conflict, sink: &mut S) -> Result<Resolution, RenderRefusal>
-        ensures { Renders S.Sink (model self.now.table.now) (T.sheets self.now.three.now) (asked mode self.now.labels (S.capacity sink.old)) sink.old sink.new result }
+        ensures renders { Renders S.Sink (model self.now.table.now) (T.sheets self.now.three.now) (asked mode self.now.labels (S.capacity sink.old)) sink.old sink.new result }
+        ensures keeps { TableKeeps (model self.now.table.now) }
     {
         render(self.three, self.table, mode, self.labels, sink)
     }

@@ -1,4 +1,4 @@
-ghost use Rattle.std.specs.Prelude.{◌≡◌, ℕ, ◌+◌, ◌≤◌, false, [], length, take, drop, nat_le, nat_lt, slice_set};
+ghost use Rattle.std.specs.Prelude.{◌≡◌, ℕ, ◌+◌, ◌≤◌, true, [], length, take, drop, nat_le, nat_lt, is_ok, is_err, slice_set};
 ghost use Rattle.hunks.specs.Lists.{pushed, pushed_all, pointed};
 ghost use Rattle.hunks.specs.contracts.list.HunkList.{the_row as list_row};
 ghost use Rattle.rules.specs.Tables.{last_of, without_last};
@@ -6,7 +6,7 @@ ghost use Rattle.rules.specs.contracts.hunk.Hunk.{the_row as hunk_row};
 ghost use Rattle.std.specs.List.{slice_get};
 ghost use Rattle.std.specs.Borrow.{LendsIf, sem};
 
-use crate::list::HunkList;
+use crate::list::{Full, HunkList};
 use arrayvec::ArrayVec;
 use rules::hunk::Hunk;
 
@@ -50,13 +50,13 @@ impl<const N: usize> HunkList<N> {
         self.items.as_slice()
     }
 
-    /// Puts a hunk behind the last one, and tells whether there was a place for it.
-    pub fn push(&mut self, hunk: Hunk) -> bool
-        ensures answer { result ≡ nat_lt (length self.old) N }
+    /// Puts a hunk behind the last one, if there is a place for it.
+    pub fn push(&mut self, hunk: Hunk) -> Result<(), Full>
+        ensures answer { is_ok result ≡ nat_lt (length self.old) N }
         ensures after { self.new ≡ pushed N self.old hunk }
-        ensures same { result ≡ false → self.new ≡ self.old }
+        ensures same { is_err result ≡ true → self.new ≡ self.old }
     {
-        self.items.try_push(hunk).is_ok()
+        self.items.try_push(hunk).map_err(|_| Full)
     }
 
     /// Takes the last hunk out, or nothing of an empty list.
@@ -75,13 +75,13 @@ impl<const N: usize> HunkList<N> {
         self.items.truncate(n);
     }
 
-    /// Puts all the hunks behind the last one, and tells whether there was a place for each; otherwise puts none.
-    pub fn push_all(&mut self, hunks: &[Hunk]) -> bool
-        ensures answer { result ≡ nat_le (length self.old + length hunks.now) N }
+    /// Puts all the hunks behind the last one, if there is a place for each; otherwise puts none.
+    pub fn push_all(&mut self, hunks: &[Hunk]) -> Result<(), Full>
+        ensures answer { is_ok result ≡ nat_le (length self.old + length hunks.now) N }
         ensures after { self.new ≡ pushed_all N self.old hunks.now }
-        ensures same { result ≡ false → self.new ≡ self.old }
+        ensures same { is_err result ≡ true → self.new ≡ self.old }
     {
-        self.items.try_extend_from_slice(hunks).is_ok()
+        self.items.try_extend_from_slice(hunks).map_err(|_| Full)
     }
 
     /// The first n hunks leave, or all where there are fewer, and the others move up.

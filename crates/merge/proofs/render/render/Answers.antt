@@ -4,7 +4,6 @@ use Rattle.rules.specs.declared.mode.Resolution.TheVariants.{Complete}
 use Rattle.rules.specs.Verdict.{marked_verdict}
 use Rattle.rules.proofs.RunAgreement.{agree_over_runs}
 use Rattle.hunks.specs.Tables.{model}
-use Rattle.hunks.proofs.Keeping.{table_keeps}
 use Rattle.merge.specs.Asking.{asked}
 use Rattle.merge.proofs.Admitted.{admitted, size_yes, size_is, refused_too, has_room}
 use Rattle.merge.proofs.Rendered.{refused, given, told}
@@ -29,8 +28,8 @@ write_merge-marked-requires-clause-hunks g c =
     let t = model c.args.table.now in
     let s = g.T.ThreeSheets.sheets c.args.three.now in
     let a = asked c.args.mode c.args.labels (g.S.Sink.capacity c.args.sink.now) in
-    rw (c.current.ensures, c.other.ensures)
-    (admitted t s a.mode a.labels (table_keeps c.args.table.now) (size_yes t s a _ (sym c.in_ok-needed.ensures))).kept
+    rw (c.current-ours.ensures.hunks, c.other-theirs.ensures.hunks)
+    (admitted t s a.mode a.labels c.current-ours.ensures.keeps (size_yes t s a _ (sym c.in_ok-needed.ensures))).kept
 
 pub returns : goal.returns
 returns g c =
@@ -45,11 +44,12 @@ returns g c =
     let fits : n ≤ cap = search rules in
     let renders = given t s a g.S.Sink c.args.sink.now c.write_merge-marked.new.sink c.begin.new.self _ c.verdict_of.result
     (has_room t s a n e (le-leb n cap fits))
-    (c.verdict_of.ensures ∙ ap (λ (x : Bool). cond x (marked_verdict c.args.mode) Complete) (rw (c.current.ensures, c.other.ensures) at w.marked))
+    (c.verdict_of.ensures ∙ ap (λ (x : Bool). cond x (marked_verdict c.args.mode) Complete) (rw (c.current-ours.ensures.hunks, c.other-theirs.ensures.hunks) at w.marked))
     (b.value fits) (b.taken fits) (b.announced fits ∙ sym (size_is t s a n e)) b.fresh b.capacity b.rest
-    (rw (c.current.ensures, c.other.ensures) at w.written) w.kept in
+    (rw (c.current-ours.ensures.hunks, c.other-theirs.ensures.hunks) at w.written) w.kept in
     record {
       renders = renders;
-      told = told t s a g.S.Sink c.args.sink.now c.write_merge-marked.new.sink (Ok c.verdict_of.result) (table_keeps c.args.table.now) renders;
+      told = told t s a g.S.Sink c.args.sink.now c.write_merge-marked.new.sink (Ok c.verdict_of.result) c.current-ours.ensures.keeps renders;
       law = agree_over_runs _ _ _ _ _ _;
+      keeps = c.current-ours.ensures.keeps;
     }

@@ -1,7 +1,0 @@
-use Rattle.std.proofs.Common.{◌≡◌, drop}
-use Rattle.contract.specs.Places.{front_place}
-use Rattle.contract.proofs.Places.{plus}
-use Rattle.contract.proofs.place.front_place.Given as goal
-
-abbrev pub invariant-loop-hunk : goal.invariant-loop-hunk
-invariant-loop-hunk l = (l.whole ≡ l.hunk-index) × (front_place l.n l.hunks ≡ plus l.whole (front_place l.rest (drop l.hunk-index l.hunks)))
