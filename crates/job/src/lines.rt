@@ -26,6 +26,7 @@ impl<'a> Iterator for Lines<'a> {
 
     ghost remaining = { item_count lines_left };
 
+    #[tactic(auto, using(crate::proofs::Folds::line_cut))]
     fn next(&mut self) -> Option<&'a [u8]> {
         if self.from >= self.job.len() {
             return None;
@@ -36,6 +37,7 @@ impl<'a> Iterator for Lines<'a> {
     }
 }
 
+#[tactic(auto, using(crate::proofs::Folds::ends_at_newline, crate::proofs::Folds::ends_with_job, crate::proofs::Folds::line_forward))]
 /// Where the line that begins at a place of a job ends: behind its newline, or at the job's end.
 pub fn line_end(job: &[u8], from: usize) -> usize
     ensures answer { result ≡ line_end job.now from }

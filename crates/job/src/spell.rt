@@ -39,6 +39,7 @@ impl Spell for Command<'_> {
     }
 }
 
+// Stays: (d) these parts of a command are no values of their own that could be `Spell`.
 fn spell_sheet(
     report: &mut Vec<u8>,
     side: Side,

@@ -50,6 +50,7 @@ impl Stored {
     }
 
     /// The sheet in the bytes. They were a sheet when they were read; any others would be a sheet of no lines.
+    // Stays: (d) made anew at each use; kept beside the bytes, it would borrow from its own struct.
     pub fn sheet(&self) -> FileSheet<'_> {
         match self {
             Stored::Text { text, starts } => {
@@ -79,6 +80,7 @@ impl Section {
         }
     }
 
+    // Stays: (d) one match to read and one to write; an array would need a number for each side.
     pub fn of(&self, side: Side) -> &Stored {
         match side {
             Side::Ancestor => &self.ancestor,

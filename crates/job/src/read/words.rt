@@ -13,6 +13,7 @@ pub(super) fn front_named<N: Named>(line: &[u8]) -> Option<(N, &[u8])>
     Some((from_name(word)?, rest))
 }
 
+#[tactic(auto, using(crate::proofs::Words::cut_by_space))]
 /// The first word of a line, as far as its first space, and what follows the space.
 fn front_word(line: &[u8]) -> Option<(&[u8], &[u8])>
     ensures { option_map both_told result ≡ front_word line.now }

@@ -3,9 +3,6 @@ use Rattle.std.proofs.lemmas.List.{take_all}
 use Rattle.job.proofs.Words.{cut_by_space}
 use Rattle.job.proofs.read.words.front_word.Goals as goal
 
-pub returns-in_err-at : goal.returns-in_err-at
-returns-in_err-at c = let h = cut_by_space c.args.line.now in search rules
-
 pub returns : goal.returns
 returns c =
     let h = cut_by_space c.args.line.now in
