@@ -37,23 +37,23 @@ impl<'a> Iterator for Lines<'a> {
     }
 }
 
-#[tactic(auto, using(crate::proofs::Folds::ends_at_newline, crate::proofs::Folds::ends_with_job, crate::proofs::Folds::line_forward))]
 /// Where the line that begins at a place of a job ends: behind its newline, or at the job's end.
+#[tactic(auto, using(crate::proofs::Folds::ends_with_job, crate::proofs::Folds::line_forward))]
 pub fn line_end(job: &[u8], from: usize) -> usize
     ensures answer { result ≡ line_end job.now from }
     ensures forward { from < length job.now → (from < result) × (result ≤ length job.now) }
 {
-    match newline_from(job, from) {
+    match find_from(b'\n', job, from) {
         Some(n) => from + n + 1,
         None => job.len().max(from),
     }
 }
 
-/// How many bytes stand ahead of the first newline from a place on.
-fn newline_from(job: &[u8], from: usize) -> Option<usize>
-    ensures { result ≡ position (λ b. b == 10) (drop from job.now) }
+/// How many bytes stand ahead of the first such byte from a place on.
+pub(crate) fn find_from(byte: u8, bytes: &[u8], from: usize) -> Option<usize>
+    ensures { result ≡ position (λ b. b == byte) (drop from bytes.now) }
 {
-    job.iter().skip(from).position(|b| *b == b'\n')
+    bytes.iter().skip(from).position(|b| *b == byte)
 }
 
 /// A line without its ending.

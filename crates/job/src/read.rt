@@ -13,8 +13,8 @@ mod sheets;
 mod table;
 mod words;
 
-#[tactic(auto, using(crate::proofs::ReadsBack::reads_back))]
 /// What a line of a job asks for, or nothing where it is not understood.
+#[tactic(auto, using(crate::proofs::ReadsBack::reads_back))]
 pub fn read_command(line: &[u8]) -> Option<Command<'_>>
     ensures answer { option_map order result ≡ order_of line.now }
     ensures law { ReadsBack }

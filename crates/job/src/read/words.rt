@@ -1,8 +1,9 @@
 //! Words at the front of a line.
-ghost use Rattle.std.specs.Prelude.{◌≡◌, ◌==◌, position};
+ghost use Rattle.std.specs.Prelude.{◌≡◌};
 ghost use Rattle.std.specs.Option.{option_map};
 ghost use Rattle.job.specs.Words.{both_told, front_named, front_word, told};
 
+use crate::lines::find_from;
 use crate::names::{Named, from_name};
 
 /// What the first word of a line names, and what follows the space behind it.
@@ -13,17 +14,11 @@ pub(super) fn front_named<N: Named>(line: &[u8]) -> Option<(N, &[u8])>
     Some((from_name(word)?, rest))
 }
 
-#[tactic(auto, using(crate::proofs::Words::cut_by_space))]
 /// The first word of a line, as far as its first space, and what follows the space.
+#[tactic(auto, using(crate::proofs::Words::cut_by_space))]
 fn front_word(line: &[u8]) -> Option<(&[u8], &[u8])>
     ensures { option_map both_told result ≡ front_word line.now }
 {
-    let at = first_space(line)?;
+    let at = find_from(b' ', line, 0)?;
     Some((&line[..at], &line[at + 1..]))
-}
-
-fn first_space(line: &[u8]) -> Option<usize>
-    ensures { result ≡ position (λ b. b == 32) line.now }
-{
-    line.iter().position(|b| *b == b' ')
 }
