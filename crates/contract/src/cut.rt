@@ -18,6 +18,7 @@ fn read_instead(hunk: &mut Hunk, span: Span)
 }
 
 /// The first `n` lines stay.
+// Stays: keep_lines and drop_lines differ in the end of the range that they set, and that is all they do.
 pub fn keep_lines(hunk: &mut Hunk, n: u32)
     requires { (0 < n) × (n ≤ hunk_size hunk.old) }
     ensures { hunk.new ≡ first_lines n hunk.old }

@@ -69,6 +69,7 @@ impl Place {
 }
 
 /// The first `n` lines leave.
+// Stays: lose_front, lose_back, gain_front and gain_back name one part of one cut each; what they share is `Place`.
 pub fn lose_front<const N: usize>(list: &mut HunkList<N>, n: u32)
     ensures { list.new ≡ (cut_front n list.old).behind }
 {

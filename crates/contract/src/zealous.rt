@@ -59,6 +59,7 @@ fn contract_back<T: ThreeSheets>(
 /// The longest equal run of leading lines leaves the two sides of a group, then that of trailing lines among the rest.
 /// What the lead loses is put into `removed`, front then back. Answers how many hunks of the lead were removed, how
 /// many of them stand in front, and how many remain.
+// Stays: the project fixes that the lists are handed in, three of them.
 pub fn zealously_contract_hunks<T: ThreeSheets>(
     three: &T,
     lead: &mut HunkList<MAX_FILLED>,

@@ -9,6 +9,7 @@ mod ops;
 #[derive(Clone, Copy)]
 pub struct TextSheet<'a> {
     text: &'a [u8],
+    // Stays: the table is lent beside its text, since a unit has no memory of its own to keep both in one.
     starts: &'a [u32],
     lines: u32,
     ghost formed: { Formed (text_lines text.now) },

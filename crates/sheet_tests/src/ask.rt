@@ -36,6 +36,7 @@ pub fn text_refused<'x>(text: &'x [u8], starts: &'x [u32]) -> Option<u32> {
 }
 
 /// Whether a sheet of "a\n" and "b" still shows them when another text was refused.
+// Stays: text_kept and cells_kept: a text is opened with its table, and cells without one.
 pub fn text_kept<'x>(text: &'x [u8], starts: &'x [u32]) -> bool {
     let mut sheet = TextSheet::empty();
     sheet.open(b"a\nb", &[0, 2]).is_ok()

@@ -21,31 +21,6 @@ fn cells(heap: Global, count: usize, first: &[u8], last: &[u8]) -> Result<Vec<u8
     Ok(memory)
 }
 
-/// Whether the memory of such cells is refused with this number and place.
-fn refused(
-    heap: Global,
-    count: usize,
-    first: &[u8],
-    last: &[u8],
-    want: (u32, u32),
-) -> Result<bool, AllocError> {
-    let memory = cells(heap, count, first, last)?;
-    Ok(cells_refused(&memory) == Some(want))
-}
-
-/// Whether line n of such cells is this one.
-fn shown(
-    heap: Global,
-    count: usize,
-    first: &[u8],
-    last: &[u8],
-    n: u32,
-    want: &[u8],
-) -> Result<bool, AllocError> {
-    let memory = cells(heap, count, first, last)?;
-    Ok(cells_show(&memory, n, want))
-}
-
 #[test]
 fn lengths_0_47_48_255(rt: HostRuntime) {
     assert!(rt; cells_refused(&cell(0, b'a', b'\n')) == Some((6, 0)));
@@ -70,34 +45,12 @@ fn a_newline_ends_a_cells_line(rt: HostRuntime) {
 
 #[test]
 fn only_the_last_cell_lacks_its_newline(rt: HostRuntime) -> Result<(), Fail> {
-    assert!(rt;
-        shown(
-            rt.alloc(),
-            2,
-            &cell(2, b'a', b'\n'),
-            &cell(1, b'b', b'\n'),
-            2,
-            b"b",
-        )?
-    );
-    assert!(rt;
-        refused(
-            rt.alloc(),
-            2,
-            &cell(2, b'a', b'\n'),
-            &cell(0, b'b', b'\n'),
-            (6, 2),
-        )?
-    );
-    assert!(rt;
-        refused(
-            rt.alloc(),
-            2,
-            &cell(1, b'a', b'\n'),
-            &cell(2, b'b', b'\n'),
-            (6, 0),
-        )?
-    );
+    let memory = cells(rt.alloc(), 2, &cell(2, b'a', b'\n'), &cell(1, b'b', b'\n'))?;
+    assert!(rt; cells_show(&memory, 2, b"b"));
+    let memory = cells(rt.alloc(), 2, &cell(2, b'a', b'\n'), &cell(0, b'b', b'\n'))?;
+    assert!(rt; cells_refused(&memory) == Some((6, 2)));
+    let memory = cells(rt.alloc(), 2, &cell(1, b'a', b'\n'), &cell(2, b'b', b'\n'))?;
+    assert!(rt; cells_refused(&memory) == Some((6, 0)));
     Ok(())
 }
 
@@ -111,35 +64,21 @@ fn whole_cells(rt: HostRuntime) {
 
 #[test]
 fn cells_1024_and_1025(rt: HostRuntime) -> Result<(), Fail> {
-    assert!(rt;
-        shown(
-            rt.alloc(),
-            1023,
-            &cell(2, b'a', b'\n'),
-            &cell(1, b'b', b'\n'),
-            1022,
-            b"a\n",
-        )?
-    );
-    assert!(rt;
-        shown(
-            rt.alloc(),
-            1023,
-            &cell(2, b'a', b'\n'),
-            &cell(1, b'b', b'\n'),
-            1023,
-            b"b",
-        )?
-    );
-    assert!(rt;
-        refused(
-            rt.alloc(),
-            1024,
-            &cell(2, b'a', b'\n'),
-            &cell(1, b'b', b'\n'),
-            (5, 0),
-        )?
-    );
+    let memory = cells(
+        rt.alloc(),
+        1023,
+        &cell(2, b'a', b'\n'),
+        &cell(1, b'b', b'\n'),
+    )?;
+    assert!(rt; cells_show(&memory, 1022, b"a\n"));
+    assert!(rt; cells_show(&memory, 1023, b"b"));
+    let memory = cells(
+        rt.alloc(),
+        1024,
+        &cell(2, b'a', b'\n'),
+        &cell(1, b'b', b'\n'),
+    )?;
+    assert!(rt; cells_refused(&memory) == Some((5, 0)));
     Ok(())
 }
 

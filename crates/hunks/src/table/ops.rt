@@ -34,6 +34,7 @@ impl HunkTable {
     }
 
     /// Empties the table, whatever it held, and takes the line counts of the three sheets.
+    // Stays: three counts side by side, in the order that the rules and the refusal's places have.
     pub fn open(&mut self, ancestor: u32, current: u32, other: u32) -> Result<(), TableRefusal>
         ensures answer { result ≡ open_answer ancestor current other }
         ensures after { self.new ≡ open_after self.old ancestor current other }
@@ -110,6 +111,7 @@ impl HunkTable {
     }
 
     /// The hunks held of the current side, in order.
+    // Stays: a call for each side: a side that is an argument could be the ancestor, of which there is no list.
     pub fn current(&self) -> &[Hunk]
         ensures hunks { result.now ≡ self.now.current }
         ensures keeps { TableKeeps self.now }
