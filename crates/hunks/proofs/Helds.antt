@@ -1,12 +1,12 @@
 -- What lists of hunks hold.
-use Rattle.std.proofs.Common.{◌≡◌, ℕ, suc, ◌+◌, ◌-◌, ◌<◌, ◌≤◌, ltb, leb, List, [], ◌∷◌, ◌++◌, length, Some, None, refl, arith}
+use Rattle.std.proofs.Common.{◌≡◌, ℕ, suc, ◌-◌, ◌<◌, ltb, List, [], ◌∷◌, ◌++◌, length, Some, None, refl, arith}
 use Rattle.std.specs.List.{slice_get}
 use Rattle.std.proofs.lemmas.Option.{slice_get-get_or}
 use Rattle.rules.specs.declared.hunk.Side.TheVariants.{Current}
 use Rattle.rules.specs.declared.hunk.Hunk.{Hunk}
 use Rattle.rules.specs.Tables.{last_from, last_of}
-use Rattle.std.proofs.lemmas.Bool.{lt-ltb, le-leb, cond-true}
-use Rattle.hunks.specs.Lists.{pushed, pushed_all}
+use Rattle.std.proofs.lemmas.Bool.{lt-ltb, cond-true}
+use Rattle.hunks.specs.Lists.{pushed}
 
 -- what stands for a hunk where there is none
 abbrev pub no_hunk : Hunk
@@ -32,6 +32,3 @@ none_held (h ∷ hs) e =
 -- where there is a place
 pub pushed_room : (n : ℕ) (hs : List Hunk) (h : Hunk) → length hs < n → pushed n hs h ≡ hs ++ (h ∷ [])
 pushed_room n hs h lt = cond-true (ltb (length hs) n) (hs ++ (h ∷ [])) hs (lt-ltb _ _ lt)
-
-pub pushed_all_room : (n : ℕ) (hs gs : List Hunk) → length hs + length gs ≤ n → pushed_all n hs gs ≡ hs ++ gs
-pushed_all_room n hs gs le = cond-true (leb (length hs + length gs) n) (hs ++ gs) hs (le-leb _ _ le)

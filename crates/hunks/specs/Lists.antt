@@ -3,10 +3,6 @@ use Rattle.std.specs.Prelude.{ℕ, ◌+◌, cond, List, [], ◌∷◌, ◌++◌,
 use Rattle.std.specs.Borrow.{MutBor}
 use Rattle.rules.specs.declared.hunk.Hunk.{Hunk}
 
--- The hunks of a list: clauses see a list as these.
-abbrev pub held : List Hunk → List Hunk
-held hs = hs
-
 -- One more hunk goes behind the last one, if fewer than n are held.
 abbrev pub pushed : ℕ → List Hunk → Hunk → List Hunk
 pushed n hs h = cond (nat_lt (length hs) n) (hs ++ (h ∷ [])) hs
