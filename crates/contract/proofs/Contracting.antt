@@ -8,9 +8,7 @@ use Rattle.rules.specs.declared.hunk.Side.{Side}
 use Rattle.rules.specs.declared.hunk.Side.TheVariants.{Current, Other, Ancestor}
 use Rattle.rules.specs.declared.hunk.Span.{Span}
 use Rattle.rules.specs.declared.hunk.Hunk.{Hunk}
-use Rattle.contract.specs.declared.place.Ahead.{Ahead}
 use Rattle.contract.specs.declared.place.Ahead.TheVariants.{Leaves, Stays}
-use Rattle.contract.specs.declared.place.Place.{Place}
 use Rattle.contract.specs.Places.{place_of, place, ahead_at, behind_at, Placed}
 use Rattle.contract.specs.Ends.{removed_of, counts_of}
 use Rattle.rules.specs.Contraction.{Readable}
@@ -20,7 +18,7 @@ use Rattle.rules.specs.Hunks.{Sheets, side_lines, sheet_of}
 use Rattle.rules.specs.Lines.{Line}
 use Rattle.rules.specs.SharedLines.{shared_front, shared_back}
 use Rattle.rules.proofs.Shared.{front_le}
-use Rattle.contract.proofs.Places.{CutAt, cut, cut_at, placed}
+use Rattle.contract.proofs.Places.{cut_at, placed}
 use Rattle.contract.proofs.Cutting.{placed_inside, ahead_few, behind_length}
 
 readable_by : (s : Sheets) (sd : Side) (h : Hunk) (r : Span) → r.end ≤ length (sheet_of s sd) → Readable s (reading sd h r)
@@ -59,11 +57,6 @@ back_few n hs =
     let p = place Stays n hs in
     let b = ap length (cut_at Stays n hs).behind ∙ behind_length p.whole p.lines hs (placed Stays n hs) in
     omega arith
-
--- the place of a cut
-pub at_place : (a : Ahead) (n : ℕ) (hs : List Hunk) (p : Place) → p ≡ place a n hs → Placed p hs × CutAt (cut a n hs) p hs
-at_place a n hs p e =
-    (subst (λ (q : Place). Placed q hs) (sym e) (placed a n hs), subst (λ (q : Place). CutAt (cut a n hs) q hs) (sym e) (cut_at a n hs))
 
 -- no more lines are shared than there are
 pub shared_back_few : (xs ys : List Line) → (shared_back xs ys ≤ length xs) × (shared_back xs ys ≤ length ys)

@@ -79,6 +79,9 @@ cut_at Leaves n (h ∷ hs) = cut_step (passes Leaves n h) n h hs (cut_front (n -
 cut_at Stays n [] = cut_none
 cut_at Stays n (h ∷ hs) = cut_step (passes Stays n h) n h hs (cut_back (n - hunk_size h) hs) (place Stays (n - hunk_size h) hs) (cut_at Stays (n - hunk_size h) hs)
 
+pub cut_behind : (a : Ahead) (n : ℕ) (hs : List Hunk) → (cut a n hs).behind ≡ behind_at (place a n hs) hs
+cut_behind a n hs = (cut_at a n hs).behind
+
 placed_step : (t : Bool) (n : ℕ) (h : Hunk) (hs : List Hunk) (p : Place) → (t ≡ false → n ≤ hunk_size h) → Placed p hs → Placed (cond t (one_more p) (place_of 0 n)) (h ∷ hs)
 placed_step true n h hs p f r = let q = r.hunks in record { hunks = omega arith; lines = r.lines }
 placed_step false n h hs p f r = record { hunks = omega arith; lines = f refl }

@@ -68,6 +68,7 @@ impl Place {
     }
 }
 
+#[tactic(auto, using(crate::proofs::Places::cut_behind))]
 /// The first `n` lines leave.
 // Stays: lose_front, lose_back, gain_front and gain_back name one part of one cut each; what they share is `Place`.
 pub fn lose_front<const N: usize>(list: &mut HunkList<N>, n: u32)
@@ -77,6 +78,7 @@ pub fn lose_front<const N: usize>(list: &mut HunkList<N>, n: u32)
     place.keep_behind(list);
 }
 
+#[tactic(auto, using(crate::proofs::Places::cut_at))]
 /// Only the first `n` lines stay.
 pub fn lose_back<const N: usize>(list: &mut HunkList<N>, n: u32)
     ensures { list.new ≡ (cut_back n list.old).ahead }
@@ -85,6 +87,7 @@ pub fn lose_back<const N: usize>(list: &mut HunkList<N>, n: u32)
     place.keep_ahead(list);
 }
 
+#[tactic(auto, using(crate::proofs::Places::cut_at))]
 /// Adds the first `n` lines of other hunks.
 pub fn gain_front<const N: usize>(list: &mut HunkList<N>, hunks: &[Hunk], n: u32)
     requires { length list.old + length (cut_front n hunks.now).ahead ≤ N }
@@ -93,6 +96,7 @@ pub fn gain_front<const N: usize>(list: &mut HunkList<N>, hunks: &[Hunk], n: u32
     Place::behind(n, hunks, Ahead::Leaves).push_ahead(list, hunks);
 }
 
+#[tactic(auto, using(crate::proofs::Places::cut_behind))]
 /// Adds what stands behind the first `n` lines of other hunks.
 pub fn gain_back<const N: usize>(list: &mut HunkList<N>, hunks: &[Hunk], n: u32)
     requires { length list.old + length (cut_back n hunks.now).behind ≤ N }

@@ -1,5 +1,5 @@
 ghost use Rattle.std.specs.Prelude.{◌≡◌, ℕ};
-ghost use Rattle.contract.specs.Places.{passes, place};
+ghost use Rattle.contract.specs.Places.{passes, place, Placed};
 
 use reading::hunk::lines_of;
 use rules::hunk::Hunk;
@@ -31,10 +31,11 @@ pub struct Place {
 }
 
 impl Place {
-    #[tactic(auto, using(crate::proofs::Places::past, crate::proofs::Places::halt, crate::proofs::Places::end))]
+    #[tactic(auto, using(crate::proofs::Places::past, crate::proofs::Places::halt, crate::proofs::Places::end, crate::proofs::Places::placed))]
     /// The place behind the first `n` lines.
     pub fn behind(n: u32, hunks: &[Hunk], ahead: Ahead) -> Place
-        ensures { result ≡ place ahead n hunks.now }
+        ensures value { result ≡ place ahead n hunks.now }
+        ensures placed { Placed result hunks.now }
     {
         // Stays: what is left of the lines decides where the cut falls, so it is counted down.
         let mut rest = n;

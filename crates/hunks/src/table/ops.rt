@@ -55,7 +55,7 @@ impl HunkTable {
         ensures after { self.new ≡ enter_after self.old hunk }
         ensures same { is_err result ≡ true → self.new ≡ self.old }
     {
-        // Stays: a side lent as &mut would have to leave a table that keeps the rules whatever is written to it.
+        // Stays: a side lent as &mut is not proved, since the table's invariant must then hold whatever the caller writes (`invariant_of-self-lent`).
         match hunk.side {
             Side::Current => self.current.enter(self.ancestor_lines, hunk),
             Side::Other => self.other.enter(self.ancestor_lines, hunk),
