@@ -1,5 +1,5 @@
 //! The questions that size and render share.
-ghost use Rattle.std.specs.Prelude.{◌≡◌, length, ◌==◌, None};
+ghost use Rattle.std.specs.Prelude.{◌≡◌, length, ◌==◌, Some, None, MatchResult};
 ghost use Rattle.std.specs.Option.{option_map};
 ghost use Rattle.rules.specs.declared.refusal.RenderRefusal.TheVariants.{CountsDiffer, MarkerSize, LabelTooLong};
 ghost use Rattle.rules.specs.Hunks.{sheet_of};
@@ -8,9 +8,11 @@ ghost use Rattle.rules.specs.Renders.{size_fits, label_fits, size_questions};
 ghost use Rattle.rules.specs.Tables.{count_of};
 ghost use Rattle.hunks.specs.Tables.{model};
 ghost use Rattle.writing.specs.Marks.{labels_in};
+ghost use Rattle.merge.specs.Asking.{Admits};
 
 use hunks::table::HunkTable;
 use reading::three::ThreeSheets;
+use rendering::whole::Rendering;
 use rules::hunk::Side;
 use rules::labels::Labels;
 use rules::limits::{MAX_LABEL, MAX_MARKER_SIZE};
@@ -50,8 +52,8 @@ fn ask_label(label: Option<&[u8]>, side: Side) -> Result<(), RenderRefusal>
     }
 }
 
-/// Asks for the sheets' counts, the marker size and the labels, in this order: the first that does not fit is refused.
-pub fn admit<T: ThreeSheets>(
+// Asks for the sheets' counts, the marker size and the labels, in this order: the first that does not fit is refused.
+fn ask<T: ThreeSheets>(
     three: &T,
     table: &HunkTable,
     mode: Conflict,
@@ -66,4 +68,23 @@ pub fn admit<T: ThreeSheets>(
     ask_label(labels.ancestor, Side::Ancestor)?;
     ask_label(labels.current, Side::Current)?;
     ask_label(labels.other, Side::Other)
+}
+
+/// The rendering of three sheets and the hunks held, or the first refusal.
+pub fn admit<'a, T: ThreeSheets>(
+    three: &'a T,
+    table: &'a HunkTable,
+    mode: Conflict,
+    labels: Labels<'a>,
+) -> Result<Rendering<'a, T>, RenderRefusal>
+    ensures { MatchResult result (λ rendering. Admits T.ThreeSheets (model table.now) (T.sheets three.now) mode (labels_in labels.entry) rendering) (λ why. size_questions (model table.now) (T.sheets three.now) mode (labels_in labels.entry) ≡ Some why) }
+{
+    ask(three, table, mode, labels)?;
+    Ok(Rendering {
+        three,
+        mode,
+        labels,
+        current: table.current(),
+        other: table.other(),
+    })
 }
