@@ -20,7 +20,8 @@ use Rattle.rules.proofs.Rendered.{accepted_counted}
 use Rattle.rules.proofs.TableKeeps.{table_kept}
 use Rattle.rules.proofs.TwoUnits.{one_unit, alike_shown}
 use Rattle.sink.specs.declared.sink.Sink.{Ghosts}
-use Rattle.rendering.specs.Sinks.{KeepsBehind, Took}
+use Rattle.sink.specs.Sinks.{LeavesAlone}
+use Rattle.rendering.specs.Sinks.{Took}
 use Rattle.merge.specs.Sinks.{sink_at, Renders}
 use Rattle.merge.specs.Told.{ModeTold, RenderTold}
 
@@ -60,22 +61,22 @@ module _ (t : Held) (s : Sheets) (a : Asked) where
     refused r result e p q = record {
       answer = p ∙ sym (ap (λ (x : Option RenderRefusal). answered x (verdict a.mode s t.current t.other)) e);
       sink = ap (sink_at k) q ∙ sym (ap (λ (x : Option RenderRefusal). changed x (filled_sink k.rule (k.fresh old) (rendering a.mode s a.labels t.current t.other)) (sink_at k old)) e);
-      kept = record { fresh = ap k.fresh q; capacity = ap k.capacity q; rest = λ j _. ap (λ (x : S). k.rest x j) q };
+      alone = record { fresh = ap k.fresh q; capacity = ap k.capacity q; rest = λ j _. ap (λ (x : S). k.rest x j) q };
       refused = λ _. q;
     }
 
     -- Begun with the rendering's length, and then given its pieces.
     pub given : (begun : S) (v : Resolution) → render_questions t s a ≡ None → v ≡ verdict a.mode s t.current t.other
         → k.value begun ≡ k.fresh old → k.taken begun ≡ 0 → k.announced begun ≡ total (rendering a.mode s a.labels t.current t.other)
-        → KeepsBehind k 0 old begun → Took k begun new (rendering a.mode s a.labels t.current t.other) → Renders k t s a old new (Ok v)
-    given begun v e p value taken announced kept w =
+        → LeavesAlone k old begun → Took k begun new (rendering a.mode s a.labels t.current t.other) → Renders k t s a old new (Ok v)
+    given begun v e p value taken announced alone w =
         let cs = rendering a.mode s a.labels t.current t.other in
         let x : k.value new ≡ made k.rule (k.fresh old) cs = w.value ∙ ap (λ (u : k.Value). made k.rule u cs) value in
         let y : k.taken new ≡ total cs = omega (arith, w.taken, taken) in
         record {
           answer = ap (λ (u : Resolution). Ok u) p ∙ sym (ap (λ (q : Option RenderRefusal). answered q (verdict a.mode s t.current t.other)) e);
           sink = same_state (w.announced ∙ announced) y x ∙ sym (ap (λ (q : Option RenderRefusal). changed q (filled_sink k.rule (k.fresh old) cs) (sink_at k old)) e);
-          kept = record { fresh = w.kept.fresh ∙ kept.fresh; capacity = w.kept.capacity ∙ kept.capacity; rest = λ j h. w.kept.rest j h ∙ kept.rest j (omega arith) };
+          alone = record { fresh = w.alone.fresh ∙ alone.fresh; capacity = w.alone.capacity ∙ alone.capacity; rest = λ j h. w.alone.rest j h ∙ alone.rest j (omega (arith, taken)) };
           refused = λ u. absurd (true≢false (sym u));
         }
 

@@ -4,8 +4,7 @@ ghost use Rattle.rules.specs.RunAgreement.{AgreementOverRuns};
 ghost use Rattle.rules.specs.Runs.{Call as RulesCall, opening, opened_as, after_call, after_calls, after_run, answer as ruled_answer, answers as ruled_answers};
 ghost use Rattle.hunks.specs.Tables.{model};
 ghost use Rattle.merge.specs.Calls.{call_in, calls_in, run_in, answer_in, answer_to, answers_to, written_over, call_sink, sink_after, written_by, furthest, UnitTable};
-ghost use Rattle.merge.specs.Sinks.{sink_at};
-ghost use Rattle.rendering.specs.Sinks.{KeepsBehind};
+ghost use Rattle.merge.specs.Sinks.{sink_at, KeepsBehind};
 
 use crate::render::render;
 use hunks::table::HunkTable;
