@@ -1,5 +1,5 @@
 -- What yes to the questions that size and render share says, and what they answer then.
-use Rattle.std.proofs.Common.{◌≡◌, ℕ, ◌≤◌, Bool, true, false, cond, eqb, List, length, Some, None, Ok, Err, Option, refl, ap, ◌∙◌, arith, le-leb}
+use Rattle.std.proofs.Common.{◌≡◌, ℕ, ◌≤◌, Bool, true, false, cond, eqb, List, length, Some, None, Ok, Option, refl, ap, ◌∙◌, arith, le-leb}
 use Rattle.rules.specs.declared.hunk.Side.TheVariants.{Current, Other, Ancestor}
 use Rattle.rules.specs.declared.mode.Conflict as modes
 use Rattle.rules.specs.declared.refusal.RenderRefusal.{RenderRefusal}
@@ -70,10 +70,6 @@ shared_no t s m l next why =
     (no_stands (label_fits l.ancestor) (LabelTooLong Ancestor) why _ _
     (no_stands (label_fits l.current) (LabelTooLong Current) why _ _
     (no_stands (label_fits l.other) (LabelTooLong Other) why None next (λ e. let z : ◌≡◌ {A = ℕ} 0 1 = cc in absurd (omega arith))))))))
-
-pub answered_no : {A R : Type 0} (q : Option R) (x : A) (r : R) → answered q x ≡ Err r → q ≡ Some r
-answered_no None x r e = let z : ◌≡◌ {A = ℕ} 0 1 = cc in absurd (omega arith)
-answered_no (Some w) x r e = cc
 
 pub answered_yes : {A R : Type 0} (q : Option R) (x y : A) → answered q x ≡ Ok y → (q ≡ None) × (x ≡ y)
 answered_yes None x y e = (refl, cc)

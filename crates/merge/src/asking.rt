@@ -5,8 +5,8 @@ ghost use Rattle.rules.specs.declared.refusal.RenderRefusal.TheVariants.{CountsD
 ghost use Rattle.rules.specs.Hunks.{sheet_of};
 ghost use Rattle.rules.specs.Questions.{ask, answered};
 ghost use Rattle.rules.specs.Renders.{size_fits, label_fits, size_questions};
+ghost use Rattle.rules.specs.TableLaws.{TableKeeps};
 ghost use Rattle.rules.specs.Tables.{count_of};
-ghost use Rattle.hunks.specs.Tables.{model};
 ghost use Rattle.writing.specs.Marks.{labels_in};
 ghost use Rattle.merge.specs.Asking.{Admits};
 
@@ -21,7 +21,7 @@ use rules::refusal::RenderRefusal;
 
 // A sheet has the count of lines that the table was opened with.
 fn ask_count<T: ThreeSheets>(three: &T, table: &HunkTable, side: Side) -> Result<(), RenderRefusal>
-    ensures { result ≡ answered (ask (length (sheet_of (T.sheets three.now) side) == count_of (model table.now) side) (CountsDiffer side) None) tt }
+    ensures { result ≡ answered (ask (length (sheet_of (T.sheets three.now) side) == count_of table.now side) (CountsDiffer side) None) tt }
 {
     if three.count_of(side) == table.lines(side) {
         Ok(())
@@ -59,7 +59,7 @@ fn ask<T: ThreeSheets>(
     mode: Conflict,
     labels: Labels<'_>,
 ) -> Result<(), RenderRefusal>
-    ensures { result ≡ answered (size_questions (model table.now) (T.sheets three.now) mode (labels_in labels.entry)) tt }
+    ensures { result ≡ answered (size_questions table.now (T.sheets three.now) mode (labels_in labels.entry)) tt }
 {
     ask_count(three, table, Side::Ancestor)?;
     ask_count(three, table, Side::Current)?;
@@ -77,14 +77,16 @@ pub fn admit<'a, T: ThreeSheets>(
     mode: Conflict,
     labels: Labels<'a>,
 ) -> Result<Rendering<'a, T>, RenderRefusal>
-    ensures { MatchResult result (λ rendering. Admits T.ThreeSheets (model table.now) (T.sheets three.now) mode (labels_in labels.entry) rendering) (λ why. size_questions (model table.now) (T.sheets three.now) mode (labels_in labels.entry) ≡ Some why) }
+    ensures answer { MatchResult result (λ rendering. Admits T.ThreeSheets table.now (T.sheets three.now) mode (labels_in labels.entry) rendering) (λ why. size_questions table.now (T.sheets three.now) mode (labels_in labels.entry) ≡ Some why) }
+    ensures keeps { TableKeeps table.now }
 {
+    let (ours, theirs) = (table.current(), table.other());
     ask(three, table, mode, labels)?;
     Ok(Rendering {
         three,
         mode,
         labels,
-        current: table.current(),
-        other: table.other(),
+        current: ours,
+        other: theirs,
     })
 }

@@ -4,8 +4,8 @@ ghost use Rattle.rules.specs.declared.mode.Resolution.{Resolution as Verdict};
 ghost use Rattle.rules.specs.declared.mode.Resolution.TheVariants.{Complete};
 ghost use Rattle.rules.specs.Renders.{size_answer};
 ghost use Rattle.rules.specs.RunAgreement.{AgreementOverRuns};
+ghost use Rattle.rules.specs.TableLaws.{TableKeeps};
 ghost use Rattle.rules.specs.Verdict.{marked_verdict};
-ghost use Rattle.hunks.specs.Tables.{model};
 ghost use Rattle.writing.specs.Marks.{labels_in};
 ghost use Rattle.merge.specs.Asking.{asked};
 ghost use Rattle.merge.specs.Sinks.{sink_at, Renders};
@@ -31,6 +31,7 @@ fn verdict_of(mode: Conflict, marked: bool) -> Resolution
     }
 }
 
+// Stays: (d) mode and labels are no struct of their own here: a unit has its labels for good and is asked for a mode, and `Rendering` holds both.
 /// The length of the rendering that three sheets and the hunks held make in a mode, or the first refusal.
 pub fn size<T: ThreeSheets>(
     three: &T,
@@ -38,7 +39,7 @@ pub fn size<T: ThreeSheets>(
     mode: Conflict,
     labels: Labels<'_>,
 ) -> Result<u32, RenderRefusal>
-    ensures { result ≡ size_answer (model table.now) (T.sheets three.now) mode (labels_in labels.entry) }
+    ensures { result ≡ size_answer table.now (T.sheets three.now) mode (labels_in labels.entry) }
 {
     Ok(admit(three, table, mode, labels)?.measure())
 }
@@ -51,9 +52,10 @@ pub fn render<T: ThreeSheets, S: Sink>(
     labels: Labels<'_>,
     sink: &mut S,
 ) -> Result<Resolution, RenderRefusal>
-    ensures renders { Renders S.Sink (model table.now) (T.sheets three.now) (asked mode labels.entry (S.capacity sink.old)) sink.old sink.new result }
-    ensures told { (v : Verdict) → result ≡ Ok v → RenderTold S.rule (S.fresh sink.old) (T.sheets three.now) (model table.now) (asked mode labels.entry (S.capacity sink.old)) v (sink_at S.Sink sink.new) }
+    ensures renders { Renders S.Sink table.now (T.sheets three.now) (asked mode labels.entry (S.capacity sink.old)) sink.old sink.new result }
+    ensures told { (v : Verdict) → result ≡ Ok v → RenderTold S.rule (S.fresh sink.old) (T.sheets three.now) table.now (asked mode labels.entry (S.capacity sink.old)) v (sink_at S.Sink sink.new) }
     ensures law { AgreementOverRuns S.Value S.rule (S.fresh sink.old) S.Value S.rule (S.fresh sink.old) }
+    ensures keeps { TableKeeps table.now }
 {
     let rendering = admit(three, table, mode, labels)?;
     let needed = rendering.measure();
