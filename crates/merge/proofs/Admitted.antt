@@ -1,5 +1,5 @@
 -- What yes to the questions that size and render share says, and what they answer then.
-use Rattle.std.proofs.Common.{◌≡◌, ℕ, ◌≤◌, Bool, true, false, eqb, leb, length, Some, None, Ok, Err, Option, refl, ap, ◌∙◌, arith}
+use Rattle.std.proofs.Common.{◌≡◌, ℕ, ◌≤◌, Bool, true, false, cond, eqb, List, length, Some, None, Ok, Option, refl, ap, ◌∙◌, arith, le-leb}
 use Rattle.rules.specs.declared.hunk.Side.TheVariants.{Current, Other, Ancestor}
 use Rattle.rules.specs.declared.mode.Conflict as modes
 use Rattle.rules.specs.declared.refusal.RenderRefusal.{RenderRefusal}
@@ -11,11 +11,22 @@ use Rattle.rules.specs.Markers.{Labels}
 use Rattle.rules.specs.Order.{Kept}
 use Rattle.rules.specs.Questions.{ask, answered}
 use Rattle.rules.specs.RenderLaws.{Counted, SizeFits}
-use Rattle.rules.specs.Renders.{Asked, size_fits, label_fits, shared_questions, size_questions, size_answer, render_questions, needed, room}
+use Rattle.rules.specs.Renders.{Asked, size_fits, label_fits, shared_questions, size_questions, render_questions, needed, room}
 use Rattle.rules.specs.TableLaws.{TableKeeps}
 use Rattle.rules.specs.Tables.{Held}
 use Rattle.rules.proofs.Rendered.{counted_then, fit_then}
 use Rattle.rules.proofs.TableKeeps.{table_kept}
+use Rattle.rules.specs.declared.hunk.Hunk.{Hunk}
+use Rattle.rules.specs.declared.mode.Resolution.{Resolution}
+use Rattle.rules.specs.declared.mode.Resolution.TheVariants.{Complete}
+use Rattle.rules.specs.Groups.{clusters}
+use Rattle.rules.specs.Rendering.{rendering}
+use Rattle.rules.specs.Verdict.{any_marked, marked_verdict, verdict}
+use Rattle.rules.specs.Walk.{walk}
+use Rattle.reading.specs.declared.three.ThreeSheets.{Ghosts}
+use Rattle.rendering.specs.declared.whole.Rendering.{Rendering}
+use Rattle.rendering.specs.Renderings.{pieces_in, marked_in}
+use Rattle.merge.specs.Asking.{Admits}
 
 -- Yes to all of them, for a table of the code.
 pub record Admitted (t : Held) (s : Sheets) (m : modes.Conflict) (l : Labels) : Type 0 where
@@ -60,27 +71,28 @@ shared_no t s m l next why =
     (no_stands (label_fits l.current) (LabelTooLong Current) why _ _
     (no_stands (label_fits l.other) (LabelTooLong Other) why None next (λ e. let z : ◌≡◌ {A = ℕ} 0 1 = cc in absurd (omega arith))))))))
 
-answered_no : {A R : Type 0} (q : Option R) (x : A) (r : R) → answered q x ≡ Err r → q ≡ Some r
-answered_no None x r e = let z : ◌≡◌ {A = ℕ} 0 1 = cc in absurd (omega arith)
-answered_no (Some w) x r e = cc
-
 pub answered_yes : {A R : Type 0} (q : Option R) (x y : A) → answered q x ≡ Ok y → (q ≡ None) × (x ≡ y)
 answered_yes None x y e = (refl, cc)
 answered_yes (Some w) x y e = let z : ◌≡◌ {A = ℕ} 0 1 = cc in absurd (omega arith)
 
--- What render is asked: refused as size is, or for want of room, or not.
-pub refused_too : (t : Held) (s : Sheets) (a : Asked) (r : RenderRefusal) → size_answer t s a.mode a.labels ≡ Err r → render_questions t s a ≡ Some r
-refused_too t s a r e = shared_no t s a.mode a.labels (room (needed t s a.mode a.labels) a.capacity) r (answered_no (size_questions t s a.mode a.labels) (needed t s a.mode a.labels) r e)
+-- What render is asked, and not size: whether its sink has room.
+pub refused_too : (t : Held) (s : Sheets) (a : Asked) (r : RenderRefusal) → size_questions t s a.mode a.labels ≡ Some r → render_questions t s a ≡ Some r
+refused_too t s a r e = shared_no t s a.mode a.labels (room (needed t s a.mode a.labels) a.capacity) r e
 
-module _ (t : Held) (s : Sheets) (a : Asked) (n : ℕ) (e : size_answer t s a.mode a.labels ≡ Ok n) where
-  pub size_yes : size_questions t s a.mode a.labels ≡ None
-  size_yes = (answered_yes (size_questions t s a.mode a.labels) (needed t s a.mode a.labels) n e).0
+pub has_room : (t : Held) (s : Sheets) (a : Asked) → size_questions t s a.mode a.labels ≡ None → needed t s a.mode a.labels ≤ a.capacity → render_questions t s a ≡ None
+has_room t s a e fits =
+    shared_next t s a.mode a.labels _ e ∙ ap (λ (b : Bool). ask b (SinkTooSmall (needed t s a.mode a.labels) a.capacity) None) (le-leb (needed t s a.mode a.labels) a.capacity fits)
 
-  pub size_is : needed t s a.mode a.labels ≡ n
-  size_is = (answered_yes (size_questions t s a.mode a.labels) (needed t s a.mode a.labels) n e).1
+-- The rendering that is admitted has the pieces that are asked for.
+same_pieces : (m m' : modes.Conflict) (s s' : Sheets) (l l' : Labels) (cs cs' os os' : List Hunk) → m ≡ m' → s ≡ s' → l ≡ l' → cs ≡ cs' → os ≡ os' → rendering m s l cs os ≡ rendering m' s' l' cs' os'
+same_pieces m m' s s' l l' cs cs' os os' a b c d e = cc
 
-  room_left : render_questions t s a ≡ room n a.capacity
-  room_left = shared_next t s a.mode a.labels _ size_yes ∙ ap (λ (k : ℕ). room k a.capacity) size_is
+same_marked : (m m' : modes.Conflict) (s s' : Sheets) (cs cs' os os' : List Hunk) → m ≡ m' → s ≡ s' → cs ≡ cs' → os ≡ os' → any_marked m s (clusters (walk cs os)) ≡ any_marked m' s' (clusters (walk cs' os'))
+same_marked m m' s s' cs cs' os os' a b d e = cc
 
-  pub has_room : leb n a.capacity ≡ true → render_questions t s a ≡ None
-  has_room f = room_left ∙ ap (λ (b : Bool). ask b (SinkTooSmall n a.capacity) None) f
+module _ {T : Type 0} (k : Ghosts T) (t : Held) (s : Sheets) (m : modes.Conflict) (l : Labels) (r : Rendering T) (a : Admits k t s m l r) where
+  pub its_pieces : pieces_in k r ≡ rendering m s l t.current t.other
+  its_pieces = same_pieces _ _ _ _ _ _ _ _ _ _ a.mode a.sheets a.labels a.current a.other
+
+  pub its_verdict : (v : Resolution) (b : Bool) → v ≡ cond b (marked_verdict m) Complete → b ≡ marked_in k r → v ≡ verdict m s t.current t.other
+  its_verdict v b e f = e ∙ ap (λ (c : Bool). cond c (marked_verdict m) Complete) (f ∙ same_marked _ _ _ _ _ _ _ _ a.mode a.sheets a.current a.other)

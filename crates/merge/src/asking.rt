@@ -1,16 +1,18 @@
 //! The questions that size and render share.
-ghost use Rattle.std.specs.Prelude.{◌≡◌, length, ◌==◌, None};
+ghost use Rattle.std.specs.Prelude.{◌≡◌, length, ◌==◌, Some, None, MatchResult};
 ghost use Rattle.std.specs.Option.{option_map};
 ghost use Rattle.rules.specs.declared.refusal.RenderRefusal.TheVariants.{CountsDiffer, MarkerSize, LabelTooLong};
 ghost use Rattle.rules.specs.Hunks.{sheet_of};
 ghost use Rattle.rules.specs.Questions.{ask, answered};
 ghost use Rattle.rules.specs.Renders.{size_fits, label_fits, size_questions};
+ghost use Rattle.rules.specs.TableLaws.{TableKeeps};
 ghost use Rattle.rules.specs.Tables.{count_of};
-ghost use Rattle.hunks.specs.Tables.{model};
 ghost use Rattle.writing.specs.Marks.{labels_in};
+ghost use Rattle.merge.specs.Asking.{Admits};
 
 use hunks::table::HunkTable;
 use reading::three::ThreeSheets;
+use rendering::whole::Rendering;
 use rules::hunk::Side;
 use rules::labels::Labels;
 use rules::limits::{MAX_LABEL, MAX_MARKER_SIZE};
@@ -19,7 +21,7 @@ use rules::refusal::RenderRefusal;
 
 // A sheet has the count of lines that the table was opened with.
 fn ask_count<T: ThreeSheets>(three: &T, table: &HunkTable, side: Side) -> Result<(), RenderRefusal>
-    ensures { result ≡ answered (ask (length (sheet_of (T.sheets three.now) side) == count_of (model table.now) side) (CountsDiffer side) None) tt }
+    ensures { result ≡ answered (ask (length (sheet_of (T.sheets three.now) side) == count_of table.now side) (CountsDiffer side) None) tt }
 {
     if three.count_of(side) == table.lines(side) {
         Ok(())
@@ -50,14 +52,14 @@ fn ask_label(label: Option<&[u8]>, side: Side) -> Result<(), RenderRefusal>
     }
 }
 
-/// Asks for the sheets' counts, the marker size and the labels, in this order: the first that does not fit is refused.
-pub fn admit<T: ThreeSheets>(
+// Asks for the sheets' counts, the marker size and the labels, in this order: the first that does not fit is refused.
+fn ask<T: ThreeSheets>(
     three: &T,
     table: &HunkTable,
     mode: Conflict,
     labels: Labels<'_>,
 ) -> Result<(), RenderRefusal>
-    ensures { result ≡ answered (size_questions (model table.now) (T.sheets three.now) mode (labels_in labels.entry)) tt }
+    ensures { result ≡ answered (size_questions table.now (T.sheets three.now) mode (labels_in labels.entry)) tt }
 {
     ask_count(three, table, Side::Ancestor)?;
     ask_count(three, table, Side::Current)?;
@@ -66,4 +68,25 @@ pub fn admit<T: ThreeSheets>(
     ask_label(labels.ancestor, Side::Ancestor)?;
     ask_label(labels.current, Side::Current)?;
     ask_label(labels.other, Side::Other)
+}
+
+/// The rendering of three sheets and the hunks held, or the first refusal.
+pub fn admit<'a, T: ThreeSheets>(
+    three: &'a T,
+    table: &'a HunkTable,
+    mode: Conflict,
+    labels: Labels<'a>,
+) -> Result<Rendering<'a, T>, RenderRefusal>
+    ensures answer { MatchResult result (λ rendering. Admits T.ThreeSheets table.now (T.sheets three.now) mode (labels_in labels.entry) rendering) (λ why. size_questions table.now (T.sheets three.now) mode (labels_in labels.entry) ≡ Some why) }
+    ensures keeps { TableKeeps table.now }
+{
+    let (ours, theirs) = (table.current(), table.other());
+    ask(three, table, mode, labels)?;
+    Ok(Rendering {
+        three,
+        mode,
+        labels,
+        current: ours,
+        other: theirs,
+    })
 }

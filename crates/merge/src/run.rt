@@ -2,7 +2,6 @@
 ghost use Rattle.std.specs.Prelude.{◌≡◌, List, ◌∷◌, map, Ok, slice_set};
 ghost use Rattle.rules.specs.RunAgreement.{AgreementOverRuns};
 ghost use Rattle.rules.specs.Runs.{Call as RulesCall, opening, opened_as, after_call, after_calls, after_run, answer as ruled_answer, answers as ruled_answers};
-ghost use Rattle.hunks.specs.Tables.{model};
 ghost use Rattle.merge.specs.Calls.{call_in, calls_in, run_in, answer_in, answer_to, answers_to, written_over, call_sink, sink_after, written_by, furthest, UnitTable};
 ghost use Rattle.merge.specs.Sinks.{sink_at, KeepsBehind};
 
@@ -37,10 +36,10 @@ fn make_call<T: ThreeSheets, S: Sink>(
     call: Call<'_>,
     sink: &mut S,
 ) -> Answer
-    ensures answer { result ≡ answer_to (T.sheets three.now) (S.capacity sink.old) (model table.old) call.entry }
-    ensures table { model table.new ≡ after_call (model table.old) (call_in (T.sheets three.now) (S.capacity sink.old) call.entry) }
-    ensures sink { sink_at S.Sink sink.new ≡ call_sink S.rule (S.fresh sink.old) (model table.old) (call_in (T.sheets three.now) (S.capacity sink.old) call.entry) (sink_at S.Sink sink.old) }
-    ensures kept { KeepsBehind S.Sink (written_by (model table.old) (call_in (T.sheets three.now) (S.capacity sink.old) call.entry)) sink.old sink.new }
+    ensures answer { result ≡ answer_to (T.sheets three.now) (S.capacity sink.old) table.old call.entry }
+    ensures table { table.new ≡ after_call table.old (call_in (T.sheets three.now) (S.capacity sink.old) call.entry) }
+    ensures sink { sink_at S.Sink sink.new ≡ call_sink S.rule (S.fresh sink.old) table.old (call_in (T.sheets three.now) (S.capacity sink.old) call.entry) (sink_at S.Sink sink.old) }
+    ensures kept { KeepsBehind S.Sink (written_by table.old (call_in (T.sheets three.now) (S.capacity sink.old) call.entry)) sink.old sink.new }
 {
     match call {
         Call::Enter(hunk) => Answer::Counted(table.enter(hunk)),
@@ -67,14 +66,14 @@ pub fn run<T: ThreeSheets, S: Sink>(
     answers: &mut [Answer],
     sink: &mut S,
 ) -> Result<(), TableRefusal>
-    ensures opened { opened_as result ≡ ruled_answer (model table.old) (opening (T.sheets three.now)) }
+    ensures opened { opened_as result ≡ ruled_answer table.old (opening (T.sheets three.now)) }
     ensures accepted { result ≡ Ok tt }
-    ensures table { model table.new ≡ after_calls (model table.old) (run_in (T.sheets three.now) (S.capacity sink.old) calls.now) }
-    ensures noted { answers.new ≡ written_over (answers_to (T.sheets three.now) (S.capacity sink.old) (after_call (model table.old) (opening (T.sheets three.now))) calls.now) answers.old }
-    ensures answers { opened_as result ∷ map answer_in (answers_to (T.sheets three.now) (S.capacity sink.old) (after_call (model table.old) (opening (T.sheets three.now))) calls.now) ≡ ruled_answers (model table.old) (run_in (T.sheets three.now) (S.capacity sink.old) calls.now) }
-    ensures sink { sink_at S.Sink sink.new ≡ sink_after S.rule (S.fresh sink.old) (model table.old) (run_in (T.sheets three.now) (S.capacity sink.old) calls.now) (sink_at S.Sink sink.old) }
-    ensures kept { KeepsBehind S.Sink (furthest (model table.old) (run_in (T.sheets three.now) (S.capacity sink.old) calls.now)) sink.old sink.new }
-    ensures unit { (xs : List RulesCall) → model table.old ≡ after_run xs → UnitTable (T.sheets three.now) xs (calls_in (T.sheets three.now) (S.capacity sink.old) calls.now) (model table.new) }
+    ensures table { table.new ≡ after_calls table.old (run_in (T.sheets three.now) (S.capacity sink.old) calls.now) }
+    ensures noted { answers.new ≡ written_over (answers_to (T.sheets three.now) (S.capacity sink.old) (after_call table.old (opening (T.sheets three.now))) calls.now) answers.old }
+    ensures answers { opened_as result ∷ map answer_in (answers_to (T.sheets three.now) (S.capacity sink.old) (after_call table.old (opening (T.sheets three.now))) calls.now) ≡ ruled_answers table.old (run_in (T.sheets three.now) (S.capacity sink.old) calls.now) }
+    ensures sink { sink_at S.Sink sink.new ≡ sink_after S.rule (S.fresh sink.old) table.old (run_in (T.sheets three.now) (S.capacity sink.old) calls.now) (sink_at S.Sink sink.old) }
+    ensures kept { KeepsBehind S.Sink (furthest table.old (run_in (T.sheets three.now) (S.capacity sink.old) calls.now)) sink.old sink.new }
+    ensures unit { (xs : List RulesCall) → table.old ≡ after_run xs → UnitTable (T.sheets three.now) xs (calls_in (T.sheets three.now) (S.capacity sink.old) calls.now) table.new }
     ensures law { AgreementOverRuns S.Value S.rule (S.fresh sink.old) S.Value S.rule (S.fresh sink.old) }
 {
     let opened = table.open(

@@ -1,6 +1,5 @@
 //! Two units that render the same sheets, current on one being other on the second.
 ghost use Rattle.rules.specs.TableLaws.{TableKeeps};
-ghost use Rattle.hunks.specs.Tables.{model};
 ghost use Rattle.merge.specs.Asking.{asked};
 ghost use Rattle.merge.specs.Sinks.{Renders};
 ghost use Rattle.merge.specs.Units.{UnitsTold, KindsAgree};
@@ -24,8 +23,8 @@ pub struct Unit<'a, T> {
 impl<'a, T: ThreeSheets> Unit<'a, T> {
     // The unit's render.
     fn render<S: Sink>(&self, mode: Conflict, sink: &mut S) -> Result<Resolution, RenderRefusal>
-        ensures renders { Renders S.Sink (model self.now.table.now) (T.sheets self.now.three.now) (asked mode self.now.labels (S.capacity sink.old)) sink.old sink.new result }
-        ensures keeps { TableKeeps (model self.now.table.now) }
+        ensures renders { Renders S.Sink self.now.table.now (T.sheets self.now.three.now) (asked mode self.now.labels (S.capacity sink.old)) sink.old sink.new result }
+        ensures keeps { TableKeeps self.now.table.now }
     {
         render(self.three, self.table, mode, self.labels, sink)
     }
@@ -42,9 +41,9 @@ pub fn render_units<T: ThreeSheets, S: Sink, T2: ThreeSheets, S2: Sink>(
     Result<Resolution, RenderRefusal>,
     Result<Resolution, RenderRefusal>,
 )
-    ensures first { Renders S.Sink (model first.now.table.now) (T.sheets first.now.three.now) (asked mode first.now.labels (S.capacity sink.old)) sink.old sink.new result.0 }
-    ensures second { Renders S2.Sink (model second.now.table.now) (T2.sheets second.now.three.now) (asked mode second.now.labels (S2.capacity partner.old)) partner.old partner.new result.1 }
-    ensures told { UnitsTold S.rule (S.fresh sink.old) S2.rule (S2.fresh partner.old) (T.sheets first.now.three.now) (model first.now.table.now) (T2.sheets second.now.three.now) (model second.now.table.now) }
+    ensures first { Renders S.Sink first.now.table.now (T.sheets first.now.three.now) (asked mode first.now.labels (S.capacity sink.old)) sink.old sink.new result.0 }
+    ensures second { Renders S2.Sink second.now.table.now (T2.sheets second.now.three.now) (asked mode second.now.labels (S2.capacity partner.old)) partner.old partner.new result.1 }
+    ensures told { UnitsTold S.rule (S.fresh sink.old) S2.rule (S2.fresh partner.old) (T.sheets first.now.three.now) first.now.table.now (T2.sheets second.now.three.now) second.now.table.now }
     ensures law { KindsAgree S.rule (S.fresh sink.old) S2.rule (S2.fresh partner.old) }
 {
     (first.render(mode, sink), second.render(mode, partner))

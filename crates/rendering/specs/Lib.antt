@@ -1,1 +1,4 @@
+pub mod Sinks
 pub mod Whole
+pub mod Turning
+pub mod Renderings

@@ -1,20 +1,16 @@
 //! The whole rendering, cluster by cluster, into any sink.
-ghost use Rattle.std.specs.Prelude.{◌≡◌, ℕ, ◌+◌, ◌-◌, ◌<◌, ◌≤◌, Bool, true, false, cond, not, List, [], ◌∷◌, ◌++◌, length};
-ghost use Rattle.std.specs.List.{AllByRecursion};
-ghost use Rattle.writing.specs.States.{open_end, state, after, Room, Keeps, HasRoom, Wrote};
-ghost use Rattle.rules.specs.Contraction.{Readable};
-ghost use Rattle.rules.specs.Limits.{max_hunks, max_marker_size};
-ghost use Rattle.rules.specs.Groups.{clusters};
-ghost use Rattle.rules.specs.Order.{Kept};
-ghost use Rattle.rules.specs.Rendering.{steps_from};
-ghost use Rattle.rules.specs.Verdict.{any_marked};
-ghost use Rattle.rules.specs.Walk.{walk};
+ghost use Rattle.std.specs.Prelude.{◌≡◌, ◌+◌, ◌≤◌};
+ghost use Rattle.rules.specs.Limits.{max_marker_size};
+ghost use Rattle.rules.specs.Pieces.{total};
+ghost use Rattle.rendering.specs.Renderings.{Writable, steps_in, pieces_in, marked_in};
+ghost use Rattle.rendering.specs.Sinks.{Took};
+ghost use Rattle.rendering.specs.Turning.{TurnOf, turn_steps, turn_marked};
 ghost use Rattle.writing.specs.Marks.{labels_in};
 ghost use Rattle.writing.specs.Sides.{size_of};
-ghost use Rattle.rendering.specs.Whole.{next_steps, next_marked, side_in};
+ghost use Rattle.writing.specs.States.{HasRoom, Wrote};
 
+use crate::walk::{Turn, Walk};
 use groups::fill::fill_ancestor;
-use groups::next::{NextCluster, next_cluster};
 use hunks::list::HunkList;
 use reading::three::ThreeSheets;
 use rules::hunk::{Hunk, Side, Span};
@@ -26,118 +22,90 @@ use writing::desk::Desk;
 use writing::keep::Stretch;
 use writing::pen::Pen;
 
-/// Writes the next cluster of the walk, from the hunks that it takes of each side. Answers whether the mode marks it.
-pub fn write_next<T: ThreeSheets, S: Sink>(
-    three: &T,
-    mode: Conflict,
-    labels: Labels<'_>,
-    since: u32,
-    next: NextCluster,
-    current: &[Hunk],
-    other: &[Hunk],
-    desk: &mut Desk,
-    pen: &mut Pen<'_, S>,
-) -> bool
-    requires within { next.range.end ≤ length (T.sheets three.now).ancestor }
-    requires size { size_of mode ≤ max_marker_size }
-    requires few { (length current.now ≤ max_hunks) × (length other.now ≤ max_hunks) }
-    requires ours { (AllByRecursion (Readable (T.sheets three.now)) current.now) × (AllByRecursion (Readable (T.sheets three.now)) (side_in next current.now)) }
-    requires theirs { (AllByRecursion (Readable (T.sheets three.now)) other.now) × (AllByRecursion (Readable (T.sheets three.now)) (side_in next other.now)) }
-    requires room { HasRoom S.Sink pen.old (next_steps mode (T.sheets three.now) (labels_in labels) since next current.now other.now) }
-    ensures wrote { Wrote S.Sink pen.old pen.new (next_steps mode (T.sheets three.now) (labels_in labels.entry) since next current.now other.now) }
-    ensures marked { result ≡ next_marked mode (T.sheets three.now) next current.now other.now }
-{
-    if next.is_group {
-        fill_ancestor(current, next.range, &mut desk.ours);
-        fill_ancestor(other, next.range, &mut desk.theirs);
-        let stretch = Stretch {
-            since,
-            range: next.range,
-        };
-        pen.group(three, mode, labels, stretch, next.lead, desk)
-    } else {
-        pen.hunks(three, current, Kind::Common);
-        pen.hunks(three, other, Kind::Common);
-        false
-    }
+/// What is rendered: three sheets and the hunks of both sides, in a mode and with labels.
+#[derive(Drop)]
+pub struct Rendering<'a, T> {
+    pub three: &'a T,
+    pub mode: Conflict,
+    pub labels: Labels<'a>,
+    pub current: &'a [Hunk],
+    pub other: &'a [Hunk],
 }
 
-/// Writes the rendering of both sides' hunks: the ancestor's lines between the clusters, and each cluster. Answers whether the mode
-/// marks a group.
-pub fn write_merge<T: ThreeSheets, S: Sink>(
-    three: &T,
-    mode: Conflict,
-    labels: Labels<'_>,
-    current: &[Hunk],
-    other: &[Hunk],
-    sink: &mut S,
-) -> bool
-    requires hunks { Kept (T.sheets three.now) current.now other.now }
-    requires few { (length current.now ≤ max_hunks) × (length other.now ≤ max_hunks) }
-    requires size { size_of mode ≤ max_marker_size }
-    requires room { Room (state (S.value sink.old) (S.taken sink.old) (S.announced sink.old) false) (steps_from mode (T.sheets three.now) (labels_in labels) 0 (clusters (walk current.now other.now))) }
-    ensures written { (state (S.value sink.new) (S.taken sink.new) (S.announced sink.new) (open_end false (steps_from mode (T.sheets three.now) (labels_in labels.entry) 0 (clusters (walk current.now other.now))))) ≡ after S.rule (state (S.value sink.old) (S.taken sink.old) (S.announced sink.old) false) (steps_from mode (T.sheets three.now) (labels_in labels.entry) 0 (clusters (walk current.now other.now))) }
-    ensures kept { Keeps S.Sink sink.old sink.new }
-    ensures marked { result ≡ any_marked mode (T.sheets three.now) (clusters (walk current.now other.now)) }
-{
-    let mut pen = Pen::new(sink);
-    write_all(three, mode, labels, current, other, &mut pen)
-}
-
-/// Writes the rendering by a pen.
-fn write_all<T: ThreeSheets, S: Sink>(
-    three: &T,
-    mode: Conflict,
-    labels: Labels<'_>,
-    current: &[Hunk],
-    other: &[Hunk],
-    pen: &mut Pen<'_, S>,
-) -> bool
-    requires hunks { Kept (T.sheets three.now) current.now other.now }
-    requires few { (length current.now ≤ max_hunks) × (length other.now ≤ max_hunks) }
-    requires size { size_of mode ≤ max_marker_size }
-    requires room { HasRoom S.Sink pen.old (steps_from mode (T.sheets three.now) (labels_in labels) 0 (clusters (walk current.now other.now))) }
-    ensures wrote { Wrote S.Sink pen.old pen.new (steps_from mode (T.sheets three.now) (labels_in labels.entry) 0 (clusters (walk current.now other.now))) }
-    ensures marked { result ≡ any_marked mode (T.sheets three.now) (clusters (walk current.now other.now)) }
-{
-    let mut desk = Desk {
-        ours: HunkList::new(),
-        theirs: HunkList::new(),
-        removed: HunkList::new(),
-    };
-    let mut currents = current;
-    let mut others = other;
-    let mut since = 0;
-    let mut marked = false;
-    while let Some(next) = next_cluster(currents, others) {
-        let m = next.current;
-        let n = next.other;
-        let range = next.range;
-        let ahead = Span {
-            start: since,
-            end: range.start,
-        };
-        pen.ancestor(three, ahead);
-        let found = write_next(
-            three,
-            mode,
-            labels,
-            since,
-            next,
-            &currents[..m],
-            &others[..n],
-            &mut desk,
-            pen,
-        );
-        marked = marked || found;
-        since = range.end;
-        currents = &currents[m..];
-        others = &others[n..];
+impl<'a, T: ThreeSheets> Rendering<'a, T> {
+    // Writes a cluster: a group as the mode says, a lone hunk's lines as common. Answers whether the mode marks it.
+    fn write_turn<S: Sink>(&self, turn: Turn<'_>, desk: &mut Desk, pen: &mut Pen<'_, S>) -> bool
+        requires turn { TurnOf (T.sheets self.now.three.now) turn }
+        requires size { size_of self.now.mode ≤ max_marker_size }
+        requires room { HasRoom S.Sink pen.old (turn_steps self.now.mode (T.sheets self.now.three.now) (labels_in self.now.labels) turn) }
+        ensures wrote { Wrote S.Sink pen.old pen.new (turn_steps self.now.mode (T.sheets self.now.three.now) (labels_in self.now.labels) turn.entry) }
+        ensures marked { result ≡ turn_marked self.now.mode (T.sheets self.now.three.now) turn.entry }
+    {
+        let cluster = turn.cluster;
+        if cluster.is_group {
+            fill_ancestor(turn.current, cluster.range, &mut desk.ours);
+            fill_ancestor(turn.other, cluster.range, &mut desk.theirs);
+            let stretch = Stretch {
+                since: turn.since,
+                range: cluster.range,
+            };
+            pen.group(
+                self.three,
+                self.mode,
+                self.labels,
+                stretch,
+                cluster.lead,
+                desk,
+            )
+        } else {
+            pen.hunks(self.three, turn.current, Kind::Common);
+            pen.hunks(self.three, turn.other, Kind::Common);
+            false
+        }
     }
-    let behind = Span {
-        start: since,
-        end: three.count_of(Side::Ancestor),
-    };
-    pen.ancestor(three, behind);
-    marked
+
+    // Writes the ancestor's lines between the clusters, and each cluster. Answers whether the mode marks a group.
+    fn write_by<S: Sink>(&self, pen: &mut Pen<'_, S>) -> bool
+        requires writable { Writable T.ThreeSheets self.now }
+        requires room { HasRoom S.Sink pen.old (steps_in T.ThreeSheets self.now) }
+        ensures wrote { Wrote S.Sink pen.old pen.new (steps_in T.ThreeSheets self.now) }
+        ensures marked { result ≡ marked_in T.ThreeSheets self.now }
+    {
+        let mut desk = Desk {
+            ours: HunkList::new(),
+            theirs: HunkList::new(),
+            removed: HunkList::new(),
+        };
+        let mut walk = Walk {
+            since: 0,
+            current: self.current,
+            other: self.other,
+        };
+        let mut marked = false;
+        while let Some(turn) = walk.turn() {
+            let ahead = Span {
+                start: turn.since,
+                end: turn.cluster.range.start,
+            };
+            pen.ancestor(self.three, ahead);
+            marked |= self.write_turn(turn, &mut desk, pen);
+        }
+        let behind = Span {
+            start: walk.since,
+            end: self.three.count_of(Side::Ancestor),
+        };
+        pen.ancestor(self.three, behind);
+        marked
+    }
+
+    /// Gives a sink the pieces of the rendering. Answers whether the mode marks a group.
+    pub fn write<S: Sink>(&self, sink: &mut S) -> bool
+        requires writable { Writable T.ThreeSheets self.now }
+        requires room { S.taken sink.old + total (pieces_in T.ThreeSheets self.now) ≤ S.announced sink.old }
+        ensures took { Took S.Sink sink.old sink.new (pieces_in T.ThreeSheets self.now) }
+        ensures marked { result ≡ marked_in T.ThreeSheets self.now }
+    {
+        let mut pen = Pen::new(sink);
+        self.write_by(&mut pen)
+    }
 }

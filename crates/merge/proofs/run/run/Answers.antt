@@ -2,7 +2,6 @@ use Rattle.std.proofs.Common.{◌∷◌, refl, ◌∙◌, ap₂, rules}
 use Rattle.std.proofs.lemmas.List.{drop_more}
 use Rattle.rules.specs.Runs.{opening, after_call}
 use Rattle.rules.proofs.RunAgreement.{agree_over_runs}
-use Rattle.hunks.specs.Tables.{model}
 use Rattle.merge.proofs.Ran.{going_none, going_on, answers_ruled, all_gone, unit_table, few_lines}
 use Rattle.merge.proofs.run.run.Goals as goal
 
@@ -20,18 +19,18 @@ loop-n-preserved g c =
 
 pub returns-clause-noted : goal.returns-clause-noted
 returns-clause-noted g c =
-    (all_gone (g.T.ThreeSheets.sheets c.args.three.now) (g.S.Sink.capacity c.args.sink.now) _ _ (model c.args.table.now) _ _ _ _ _ _ _ _ _ c.loop-n.invariant.0 c.loop-n-test.false (search rules)).noted
+    (all_gone (g.T.ThreeSheets.sheets c.args.three.now) (g.S.Sink.capacity c.args.sink.now) _ _ c.args.table.now _ _ _ _ _ _ _ _ _ c.loop-n.invariant.0 c.loop-n-test.false (search rules)).noted
 
 pub returns-clause-answers : goal.returns-clause-answers
 returns-clause-answers g c =
     let s = g.T.ThreeSheets.sheets c.args.three.now in
-    ap₂ ◌∷◌ (search rules) (answers_ruled s (g.S.Sink.capacity c.args.sink.now) (after_call (model c.args.table.now) (opening s)) c.args.calls.now)
+    ap₂ ◌∷◌ (search rules) (answers_ruled s (g.S.Sink.capacity c.args.sink.now) (after_call c.args.table.now (opening s)) c.args.calls.now)
 
 pub returns-clause-unit : goal.returns-clause-unit
 returns-clause-unit g c = λ xs e.
     let s = g.T.ThreeSheets.sheets c.args.three.now in
     let cap = g.S.Sink.capacity c.args.sink.now in
-    let gone = all_gone s cap _ _ (model c.args.table.now) _ _ _ _ _ _ _ _ _ c.loop-n.invariant.0 c.loop-n-test.false (search rules) in
+    let gone = all_gone s cap _ _ c.args.table.now _ _ _ _ _ _ _ _ _ c.loop-n.invariant.0 c.loop-n-test.false (search rules) in
     unit_table s cap _ _ xs _ (few_lines s (g.T.ThreeSheets.formed c.args.three.now)) gone.table e
 
 pub returns-clause-law : goal.returns-clause-law

@@ -1,0 +1,46 @@
+//! The walk over the hunks of both sides, turn by turn.
+ghost use Rattle.std.specs.Prelude.{MatchOption};
+ghost use Rattle.groups.specs.Taking.{KeptHunks};
+ghost use Rattle.rendering.specs.Turning.{Turned, Ended};
+
+use groups::next::{NextCluster, next_cluster};
+use rules::hunk::Hunk;
+
+/// What is left of the walk: the hunks of both sides, and the ancestor's line at which the last cluster ended.
+#[derive(Drop)]
+pub(crate) struct Walk<'a> {
+    pub(crate) since: u32,
+    pub(crate) current: &'a [Hunk],
+    pub(crate) other: &'a [Hunk],
+}
+
+/// A cluster taken off the walk, with its hunks of both sides, and the line at which the one before it ended.
+#[derive(Clone, Copy)]
+pub(crate) struct Turn<'a> {
+    pub(crate) since: u32,
+    pub(crate) cluster: NextCluster,
+    pub(crate) current: &'a [Hunk],
+    pub(crate) other: &'a [Hunk],
+}
+
+impl<'a> Walk<'a> {
+    /// Takes the next cluster off, if one is left.
+    pub(crate) fn turn(&mut self) -> Option<Turn<'a>>
+        requires { KeptHunks self.old.current.now self.old.other.now }
+        ensures { MatchOption result (Ended self.old self.new) (λ turn. Turned self.old self.new turn) }
+    {
+        let cluster = next_cluster(self.current, self.other)?;
+        let (current, later_current) = self.current.split_at(cluster.current);
+        let (other, later_other) = self.other.split_at(cluster.other);
+        let since = self.since;
+        self.since = cluster.range.end;
+        self.current = later_current;
+        self.other = later_other;
+        Some(Turn {
+            since,
+            cluster,
+            current,
+            other,
+        })
+    }
+}
