@@ -11,6 +11,7 @@ use crate::touch::touch;
 use rules::hunk::{Hunk, Side};
 
 // Whether the first hunk left of a side touches the last one taken of the facing side.
+// Stays: a pair of Options in one match reads as the rule does; `zip` and `is_some_and` would say no more.
 fn is_offered(left: &[Hunk], taken: &[Hunk]) -> bool
     ensures { result ≡ offers (slice_get left.now 0) (last_of taken.now) }
 {

@@ -6,6 +6,7 @@ mod ops;
 
 /// A list of at most N hunks, which lie in the value itself.
 #[derive(Drop)]
+// Stays: a type of its own over `ArrayVec`, since the working list and its calls are a form that the project fixes.
 pub struct HunkList<const N: usize> {
     items: ArrayVec<Hunk, N>,
 }

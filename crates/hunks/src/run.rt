@@ -20,6 +20,7 @@ pub enum Call {
 }
 
 // One call; what it answers is not kept.
+// Stays: a run of calls is a value, which the rules of runs go over.
 fn make(table: &mut HunkTable, call: Call)
     ensures { table.new ≡ after_call table.old (call_of call) }
 {

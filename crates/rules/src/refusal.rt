@@ -15,6 +15,7 @@ pub trait Refusal: Copy {
 
     ghost place: { Self → ℕ };
 
+    // Stays: numbers and places of refusals are part of the product, which shows them, and place 0 where there is none.
     fn number(self) -> u32
         ensures { result ≡ number self };
 
@@ -151,8 +152,7 @@ impl Refusal for RenderRefusal {
 
     fn place(self) -> u32 {
         match self {
-            RenderRefusal::CountsDiffer(side) => side.into(),
-            RenderRefusal::LabelTooLong(side) => side.into(),
+            RenderRefusal::CountsDiffer(side) | RenderRefusal::LabelTooLong(side) => side.into(),
             _ => 0,
         }
     }

@@ -5,7 +5,7 @@ ghost use Rattle.rules.specs.Lines.{same_line};
 use rules::ending::Ending;
 
 /// Whether two lines have the same bytes.
-// Stays: (d) the body is `==` already.
+// Stays: (d) the body is `==` already; the name is the rule's, and what the contract ties to it.
 pub fn same_line(a: &[u8], b: &[u8]) -> bool
     ensures { result ≡ same_line a.now b.now }
 {

@@ -19,6 +19,7 @@ impl<'a, S: Sheet> Iterator for Lines<'a, S> {
 
     fn next(&mut self) -> Option<&'a [u8]> {
         let line = self.sheet.line(self.at)?;
+        // Stays: the cursor is all that such an iterator is.
         self.at += 1;
         Some(line)
     }

@@ -37,6 +37,7 @@ pub(crate) fn count_lines(text: &[u8], room: usize) -> Result<u32, SheetRefusal>
 }
 
 /// How many lines a text has.
+// Stays: `requires` of private functions, whose caller has just asked for the text's length.
 fn lines_in(text: &[u8]) -> u32
     requires { length text.now ≤ max_bytes }
     ensures { result ≡ length (text_lines text.now) }
@@ -49,6 +50,7 @@ fn write_starts(text: &[u8], starts: &mut [u32])
     requires { (length text.now ≤ max_bytes) × (length (text_lines text.now) ≤ length starts.old) }
     ensures { starts.new ≡ filled text.now starts.old }
 {
+    // Stays: over `starts.iter_mut().zip(..)` a loop's invariant cannot name what `iter_mut` has lent.
     for (line, start) in line_starts(text).enumerate() {
         starts[line] = start;
     }
@@ -92,6 +94,7 @@ impl<'a> Iterator for LineStarts<'a> {
         if self.rest.is_empty() {
             return None;
         }
+        // Stays: where a line starts is what is asked for, so the cursor counts it.
         let start = self.at;
         let len = first_len(self.rest);
         *self = LineStarts {

@@ -18,6 +18,7 @@ pub fn take_all<S: Sink>(sink: &mut S, pieces: &[Piece<'_>]) -> usize
     ensures alone { LeavesAlone S.Sink sink.old sink.new }
     ensures untouched { result ≡ 0 → sink.new ≡ sink.old }
 {
+    // Stays: `position` would lend the sink to a closure, after which a proof knows nothing of it.
     for (n, p) in pieces.iter().enumerate() {
         if sink.take(*p).is_err() {
             return n;

@@ -18,6 +18,7 @@ impl<'a> CellSheet<'a> {
     }
 
     /// The sheet of the lines in a memory's cells, or why there is none.
+    // Stays: new and open of both kinds differ in what they are handed: a text has a table beside it.
     pub fn new(memory: &'a [u8]) -> Result<CellSheet<'a>, SheetRefusal>
         ensures answer { result_map_both (λ s. length (meaning.sheet s).lines) (λ e. e) result ≡ cells_answer memory.now }
         ensures shown { IfOk result (λ s. (meaning.sheet s).lines ≡ memory_lines memory.now) }
@@ -58,6 +59,7 @@ fn checked(memory: &[u8]) -> Result<u32, SheetRefusal>
 }
 
 /// Whether a cell holds a line, which may lack its newline only in the last cell.
+// Stays: the flag says which cell it is, as the rule's definition does.
 fn cell_stands(cell: &[u8; CELL_SIZE], last: bool) -> bool
     ensures { result ≡ cell_good last cell.now }
 {

@@ -20,6 +20,7 @@ impl Row {
         ensures meter { self.new.meter ≡ self.old.meter }
     {
         if b == NEWLINE {
+            // Stays: the count goes on from one piece to the next.
             self.newlines += 1;
         } else if self.newlines == self.wanted {
             let _ = self.bytes.try_push(b);
