@@ -1,11 +1,11 @@
 ghost use Rattle.std.specs.Prelude.{◌≡◌, ℕ, ◌<◌};
 ghost use Rattle.rules.specs.Hunks.{sheet_of};
-ghost use Rattle.rules.specs.Endings.{by_second_last, ends_in_newline, ending_before, ending_of, no_lines};
+ghost use Rattle.rules.specs.Endings.{by_second_last, ends_in_newline, ending_before, ending_of};
 
 use crate::hunk::line_at;
 use crate::three::ThreeSheets;
 use rules::ending::Ending;
-use rules::hunk::{Hunk, Side, Span};
+use rules::hunk::{Hunk, Side};
 
 /// What the second-last byte of a line says, if there is one.
 fn by_second_last(line: &[u8]) -> Option<Ending>
@@ -25,13 +25,6 @@ fn ends_in_newline(line: &[u8]) -> bool
     matches!(line, [.., b'\n'])
 }
 
-/// Whether a range has no lines.
-fn is_empty(range: Span) -> bool
-    ensures { result ≡ no_lines range }
-{
-    (range.start..range.end).is_empty()
-}
-
 /// The ending shown at the end of a stretch of lines: where the last lacks the newline, the one ahead of it decides.
 pub fn ending_before<T: ThreeSheets>(three: &T, side: Side, end: u32) -> Option<Ending>
     requires { 0 < end }
@@ -49,10 +42,10 @@ pub fn detect_line_ending<T: ThreeSheets>(three: &T, hunks: &[Hunk]) -> Option<E
     ensures { result ≡ ending_of (T.ThreeSheets.sheets three.now) hunks.now }
 {
     for hunk in hunks.iter().rev() {
-        if !is_empty(hunk.after) {
+        if !hunk.after.is_empty() {
             return ending_before(three, hunk.side, hunk.after.end);
         }
-        if !is_empty(hunk.before) {
+        if !hunk.before.is_empty() {
             return ending_before(three, Side::Ancestor, hunk.before.end);
         }
     }

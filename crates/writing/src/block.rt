@@ -23,11 +23,10 @@ use sink::sink::Sink;
 fn stretch_ending<T: ThreeSheets>(three: &T, range: Span) -> Ending
     ensures { result ≡ base_ending (T.sheets three.now) range.start range.end }
 {
-    if range.start < range.end {
-        ending_before(three, Side::Ancestor, range.end).unwrap_or(Ending::Newline)
-    } else {
-        Ending::Newline
+    if range.is_empty() {
+        return Ending::Newline;
     }
+    ending_before(three, Side::Ancestor, range.end).unwrap_or(Ending::Newline)
 }
 
 impl<'a, S: Sink> Pen<'a, S> {

@@ -18,8 +18,7 @@ fn is_within(span: Span, lines: u32) -> bool
 fn has_lines(hunk: Hunk) -> bool
     ensures { result ≡ changes hunk }
 {
-    // Stays: a span has no method that says it shorter.
-    hunk.before.start < hunk.before.end || hunk.after.start < hunk.after.end
+    !hunk.before.is_empty() || !hunk.after.is_empty()
 }
 
 fn stands_behind(last: Option<Hunk>, hunk: Hunk) -> bool
