@@ -8,7 +8,7 @@ use Rattle.rules.specs.Renders.{Asked, size_questions}
 use Rattle.rules.specs.Tables.{Held}
 use Rattle.reading.specs.declared.three.ThreeSheets.{Ghosts}
 use Rattle.rendering.specs.declared.whole.Rendering.{Rendering}
-use Rattle.rendering.specs.Renderings.{Writable}
+use Rattle.rendering.specs.Renderings.{Bounded, Writable}
 use Rattle.writing.specs.Marks.{labels_in}
 
 abbrev pub asked : modes.Conflict → code.Labels → ℕ → Asked
@@ -23,3 +23,4 @@ pub record Admits {T : Type 0} (k : Ghosts T) (t : Held) (s : Sheets) (m : modes
   pub current : r.current.now ≡ t.current
   pub other : r.other.now ≡ t.other
   pub writable : Writable k r
+  pub bounded : Bounded k r

@@ -1,7 +1,7 @@
 //! The length of a rendering, measured by writing it over a tally.
 ghost use Rattle.std.specs.Prelude.{◌≡◌};
 ghost use Rattle.rules.specs.Pieces.{total};
-ghost use Rattle.rendering.specs.Renderings.{Writable, pieces_in};
+ghost use Rattle.rendering.specs.Renderings.{Bounded, Writable, pieces_in};
 
 use crate::whole::Rendering;
 use reading::three::ThreeSheets;
@@ -11,7 +11,8 @@ use sink::tally::Tally;
 impl<'a, T: ThreeSheets> Rendering<'a, T> {
     /// The length, counted by writing over a tally.
     pub fn measure(&self) -> u32
-        requires { Writable T.ThreeSheets self.now }
+        requires writable { Writable T.ThreeSheets self.now }
+        requires bounded { Bounded T.ThreeSheets self.now }
         ensures { result ≡ total (pieces_in T.ThreeSheets self.now) }
     {
         let mut tally = Tally::new();

@@ -1,5 +1,6 @@
 use Rattle.std.proofs.Common.{sym, refl}
 use Rattle.writing.specs.Marks.{labels_in}
+use Rattle.rendering.proofs.Measured.{size_bound}
 use Rattle.merge.proofs.Admitted.{admitted, answered_yes}
 use Rattle.merge.proofs.asking.admit.Goals as goal
 
@@ -19,7 +20,7 @@ returns-clause-answer g c =
       writable = record {
         kept = rw (ours, theirs) a.kept;
         few = rw (ours, theirs) a.few;
-        size = a.size;
-        labels = a.labels;
+        size = size_bound c.args.mode a.size;
       };
+      bounded = record { size = a.size; labels = a.labels };
     }
