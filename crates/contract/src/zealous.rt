@@ -1,8 +1,7 @@
 ghost use Rattle.std.specs.Prelude.{◌≡◌, ℕ, ◌+◌, ◌≤◌, ◌++◌, length};
-ghost use Rattle.std.specs.List.{AllByRecursion};
 ghost use Rattle.rules.specs.Limits.{max_filled, max_removed};
 ghost use Rattle.rules.specs.Contraction.{contracted};
-ghost use Rattle.rules.specs.Contraction.{Readable};
+ghost use Rattle.reading.specs.Reading.{AllReadable};
 ghost use Rattle.contract.specs.Ends.{shared_front_cut, shared_back_cut, removed_of, counts_of};
 
 use crate::list::{gain_back, gain_front, lose_back, lose_front};
@@ -19,12 +18,12 @@ fn contract_front<T: ThreeSheets>(
     facing: &mut HunkList<MAX_FILLED>,
     removed: &mut HunkList<MAX_REMOVED>,
 )
-    requires ours { AllByRecursion (Readable (T.ThreeSheets.sheets three.now)) lead.old }
-    requires theirs { AllByRecursion (Readable (T.ThreeSheets.sheets three.now)) facing.old }
+    requires ours { AllReadable (T.sheets three.now) lead.old }
+    requires theirs { AllReadable (T.sheets three.now) facing.old }
     ensures few { length lead.old ≤ max_filled }
-    ensures lead { lead.new ≡ (shared_front_cut (T.ThreeSheets.sheets three.now) lead.old facing.old lead.old).behind }
-    ensures facing { facing.new ≡ (shared_front_cut (T.ThreeSheets.sheets three.now) lead.old facing.old facing.old).behind }
-    ensures removed { removed.new ≡ (shared_front_cut (T.ThreeSheets.sheets three.now) lead.old facing.old lead.old).ahead }
+    ensures lead { lead.new ≡ (shared_front_cut (T.sheets three.now) lead.old facing.old lead.old).behind }
+    ensures facing { facing.new ≡ (shared_front_cut (T.sheets three.now) lead.old facing.old facing.old).behind }
+    ensures removed { removed.new ≡ (shared_front_cut (T.sheets three.now) lead.old facing.old lead.old).ahead }
 {
     let n = shared_front(three, lead.as_slice(), facing.as_slice());
     removed.truncate(0);
@@ -40,12 +39,12 @@ fn contract_back<T: ThreeSheets>(
     facing: &mut HunkList<MAX_FILLED>,
     removed: &mut HunkList<MAX_REMOVED>,
 )
-    requires ours { AllByRecursion (Readable (T.ThreeSheets.sheets three.now)) lead.old }
-    requires theirs { AllByRecursion (Readable (T.ThreeSheets.sheets three.now)) facing.old }
+    requires ours { AllReadable (T.sheets three.now) lead.old }
+    requires theirs { AllReadable (T.sheets three.now) facing.old }
     requires room { length removed.old + length lead.old ≤ max_removed }
-    ensures lead { lead.new ≡ (shared_back_cut (T.ThreeSheets.sheets three.now) lead.old facing.old lead.old).ahead }
-    ensures facing { facing.new ≡ (shared_back_cut (T.ThreeSheets.sheets three.now) lead.old facing.old facing.old).ahead }
-    ensures removed { removed.new ≡ removed.old ++ (shared_back_cut (T.ThreeSheets.sheets three.now) lead.old facing.old lead.old).behind }
+    ensures lead { lead.new ≡ (shared_back_cut (T.sheets three.now) lead.old facing.old lead.old).ahead }
+    ensures facing { facing.new ≡ (shared_back_cut (T.sheets three.now) lead.old facing.old facing.old).ahead }
+    ensures removed { removed.new ≡ removed.old ++ (shared_back_cut (T.sheets three.now) lead.old facing.old lead.old).behind }
 {
     // Stays: a twin of contract_front in its shape alone, since each call is another one.
     let n = shared_back(three, lead.as_slice(), facing.as_slice());
@@ -66,12 +65,12 @@ pub fn zealously_contract_hunks<T: ThreeSheets>(
     facing: &mut HunkList<MAX_FILLED>,
     removed: &mut HunkList<MAX_REMOVED>,
 ) -> (usize, usize, usize)
-    requires ours { AllByRecursion (Readable (T.ThreeSheets.sheets three.now)) lead.old }
-    requires theirs { AllByRecursion (Readable (T.ThreeSheets.sheets three.now)) facing.old }
-    ensures lead { lead.new ≡ (contracted (T.ThreeSheets.sheets three.now) lead.old facing.old).lead }
-    ensures facing { facing.new ≡ (contracted (T.ThreeSheets.sheets three.now) lead.old facing.old).facing }
-    ensures removed { removed.new ≡ removed_of (contracted (T.ThreeSheets.sheets three.now) lead.old facing.old) }
-    ensures counts { result ≡ counts_of (contracted (T.ThreeSheets.sheets three.now) lead.old facing.old) }
+    requires ours { AllReadable (T.sheets three.now) lead.old }
+    requires theirs { AllReadable (T.sheets three.now) facing.old }
+    ensures lead { lead.new ≡ (contracted (T.sheets three.now) lead.old facing.old).lead }
+    ensures facing { facing.new ≡ (contracted (T.sheets three.now) lead.old facing.old).facing }
+    ensures removed { removed.new ≡ removed_of (contracted (T.sheets three.now) lead.old facing.old) }
+    ensures counts { result ≡ counts_of (contracted (T.sheets three.now) lead.old facing.old) }
 {
     contract_front(three, lead, facing, removed);
     let in_front = removed.len();

@@ -27,7 +27,7 @@ pub fn lines_of(hunk: Hunk) -> u32
 
 /// Line `n` of the sheet that the side names, and no bytes past the last.
 pub fn line_at<T: ThreeSheets>(three: &T, side: Side, n: u32) -> &[u8]
-    ensures { result.now ≡ slice_index_or (sheet_of (T.ThreeSheets.sheets three.now) side) n [] }
+    ensures { result.now ≡ slice_index_or (sheet_of (T.sheets three.now) side) n [] }
 {
     three.line_of(side, n).unwrap_or(&[])
 }
@@ -35,7 +35,7 @@ pub fn line_at<T: ThreeSheets>(three: &T, side: Side, n: u32) -> &[u8]
 /// Line `k` of a hunk.
 pub fn line_in<T: ThreeSheets>(three: &T, hunk: Hunk, k: u32) -> &[u8]
     requires { k < hunk_size hunk }
-    ensures { result.now ≡ slice_index_or (hunk_lines (T.ThreeSheets.sheets three.now) hunk) k [] }
+    ensures { result.now ≡ slice_index_or (hunk_lines (T.sheets three.now) hunk) k [] }
 {
     line_at(three, hunk.side, read_range(hunk).start + k)
 }

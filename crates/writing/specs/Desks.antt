@@ -1,16 +1,15 @@
 -- The lists that a group is worked in.
 use Rattle.std.specs.Prelude.{ℕ, take, drop}
-use Rattle.std.specs.List.{AllByRecursion}
-use Rattle.rules.specs.Contraction.{Readable}
 use Rattle.rules.specs.Hunks.{Sheets}
 use Rattle.rules.specs.Sides.{Sides}
+use Rattle.reading.specs.Reading.{AllReadable}
 use Rattle.writing.specs.declared.desk.Desk.{Desk}
 use Rattle.writing.specs.Sides.{sides_of}
 
 -- Both sides can be read.
 pub record Legible (s : Sheets) (d : Desk) : Type 0 where
-  pub ours : AllByRecursion (Readable s) d.ours
-  pub theirs : AllByRecursion (Readable s) d.theirs
+  pub ours : AllReadable s d.ours
+  pub theirs : AllReadable s d.theirs
 
 -- The sides, the first n of the removed hunks in front and the others behind.
 abbrev pub split_lists : Desk → ℕ → Sides

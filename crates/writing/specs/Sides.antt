@@ -1,7 +1,6 @@
 -- The two sides of a group handed over as lists of hunks, ours and theirs, and what a mode writes of them. They are what `rules` says of the group
 -- whose sides they are.
 use Rattle.std.specs.Prelude.{◌≡◌, ℕ, Bool, true, false, cond, not, List, []}
-use Rattle.std.specs.List.{AllByRecursion}
 use Rattle.rules.specs.declared.hunk.Hunk.{Hunk}
 use Rattle.rules.specs.declared.mode.ConflictStyle.{ConflictStyle}
 use Rattle.rules.specs.declared.mode.Conflict as modes
@@ -11,7 +10,7 @@ use Rattle.rules.specs.Hunks.{Sheets, side_lines}
 use Rattle.rules.specs.Walk.{is_current}
 use Rattle.rules.specs.Groups.{Cluster, from, to}
 use Rattle.rules.specs.Filling.{ours_of, theirs_of}
-use Rattle.rules.specs.Contraction.{Readable, contracted}
+use Rattle.rules.specs.Contraction.{contracted}
 use Rattle.rules.specs.Sides.{Sides, by_lead, contracts}
 use Rattle.rules.specs.Pieces.{common}
 use Rattle.rules.specs.Steps.{Step, each}
@@ -20,6 +19,7 @@ use Rattle.rules.specs.Blocks.{keep_steps, blocked}
 use Rattle.rules.specs.Unions.{union_steps}
 use Rattle.rules.specs.Rendering.{group_steps}
 use Rattle.rules.specs.Verdict.{marks}
+use Rattle.reading.specs.Reading.{AllReadable}
 use Rattle.writing.specs.declared.sides.Sides as code
 
 -- What left two sides ahead, what is left of ours and of theirs, and what left them behind.
@@ -32,10 +32,10 @@ lists_lent d = sides_of d.front.now d.left.now d.right.now d.back.now
 
 -- All four lists can be read.
 pub record Readables (s : Sheets) (d : Sides) : Type 0 where
-  pub front : AllByRecursion (Readable s) d.front
-  pub left : AllByRecursion (Readable s) d.left
-  pub right : AllByRecursion (Readable s) d.right
-  pub back : AllByRecursion (Readable s) d.back
+  pub front : AllReadable s d.front
+  pub left : AllReadable s d.left
+  pub right : AllReadable s d.right
+  pub back : AllReadable s d.back
 
 -- Ours and theirs contracted; the lead is ours or theirs.
 abbrev pub contracted_lists : Sheets → Bool → List Hunk → List Hunk → Sides

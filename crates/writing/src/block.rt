@@ -1,8 +1,7 @@
 ghost use Rattle.std.specs.Prelude.{◌≡◌, ℕ, ◌≤◌, length};
-ghost use Rattle.std.specs.List.{AllByRecursion};
 ghost use Rattle.rules.specs.Limits.{max_filled};
-ghost use Rattle.rules.specs.Contraction.{Readable};
 ghost use Rattle.rules.specs.Blocks.{base_ending, base_steps, block_steps, blocked, kept_steps};
+ghost use Rattle.reading.specs.Reading.{AllReadable};
 ghost use Rattle.writing.specs.Marks.{labels_in};
 ghost use Rattle.writing.specs.States.{HasRoom, Wrote};
 
@@ -56,8 +55,8 @@ impl<'a, S: Sink> Pen<'a, S> {
         sides: Sides<'_>,
     )
         requires within { range.end ≤ length (T.sheets three.now).ancestor }
-        requires ours { AllByRecursion (Readable (T.sheets three.now)) sides.left.now }
-        requires theirs { AllByRecursion (Readable (T.sheets three.now)) sides.right.now }
+        requires ours { AllReadable (T.sheets three.now) sides.left.now }
+        requires theirs { AllReadable (T.sheets three.now) sides.right.now }
         requires room { HasRoom S.Sink self.old (block_steps marks.style (T.sheets three.now) marks.size (labels_in marks.labels) ending range.start range.end sides.left.now sides.right.now) }
         ensures { Wrote S.Sink self.old self.new (block_steps marks.entry.style (T.sheets three.now) marks.entry.size (labels_in marks.entry.labels) ending range.start range.end sides.entry.left.now sides.entry.right.now) }
     {
@@ -80,8 +79,8 @@ impl<'a, S: Sink> Pen<'a, S> {
     ) -> bool
         requires within { range.end ≤ length (T.sheets three.now).ancestor }
         requires few { (length sides.left.now ≤ max_filled) × (length sides.right.now ≤ max_filled) }
-        requires ours { AllByRecursion (Readable (T.sheets three.now)) sides.left.now }
-        requires theirs { AllByRecursion (Readable (T.sheets three.now)) sides.right.now }
+        requires ours { AllReadable (T.sheets three.now) sides.left.now }
+        requires theirs { AllReadable (T.sheets three.now) sides.right.now }
         requires room { HasRoom S.Sink self.old (kept_steps marks.style (T.sheets three.now) marks.size (labels_in marks.labels) ending range.start range.end sides.left.now sides.right.now) }
         ensures wrote { Wrote S.Sink self.old self.new (kept_steps marks.entry.style (T.sheets three.now) marks.entry.size (labels_in marks.entry.labels) ending range.start range.end sides.entry.left.now sides.entry.right.now) }
         ensures block { result ≡ blocked marks.entry.style (T.sheets three.now) sides.entry.left.now sides.entry.right.now }

@@ -1,10 +1,9 @@
 ghost use Rattle.std.specs.Prelude.{◌≡◌, ℕ, ◌≤◌, false, List, [], ◌∷◌, length};
-ghost use Rattle.std.specs.List.{AllByRecursion};
 ghost use Rattle.rules.specs.Hunks.{sheet_of, side_lines};
 ghost use Rattle.rules.specs.Lines.{between};
-ghost use Rattle.rules.specs.Contraction.{Readable};
 ghost use Rattle.rules.specs.Pieces.{common};
 ghost use Rattle.rules.specs.Steps.{put, close, each, left_open};
+ghost use Rattle.reading.specs.Reading.{AllReadable};
 ghost use Rattle.sink.specs.Pieces.{chunk, kind_of};
 ghost use Rattle.writing.specs.States.{HasRoom, Wrote};
 
@@ -85,7 +84,7 @@ impl<'a, S: Sink> Pen<'a, S> {
 
     /// Writes the lines of the hunks.
     pub fn hunks<T: ThreeSheets>(&mut self, three: &T, hunks: &[Hunk], kind: Kind)
-        requires readable { AllByRecursion (Readable (T.sheets three.now)) hunks.now }
+        requires readable { AllReadable (T.sheets three.now) hunks.now }
         requires room { HasRoom S.Sink self.old (each (kind_of kind) (side_lines (T.sheets three.now) hunks.now)) }
         ensures { Wrote S.Sink self.old self.new (each (kind_of kind) (side_lines (T.sheets three.now) hunks.now)) }
     {
