@@ -9,7 +9,7 @@ use crate::mark::Mark;
 use crate::marks::Marks;
 use crate::pen::Pen;
 use crate::sides::Sides;
-use reading::ending::ending_before;
+use reading::ending::range_ending;
 use reading::shared::hunks_differ;
 use reading::three::ThreeSheets;
 use rules::ending::Ending;
@@ -22,10 +22,8 @@ use sink::sink::Sink;
 fn stretch_ending<T: ThreeSheets>(three: &T, range: Span) -> Ending
     ensures { result ≡ base_ending (T.sheets three.now) range.start range.end }
 {
-    if range.is_empty() {
-        return Ending::Newline;
-    }
-    ending_before(three, Side::Ancestor, range.end).unwrap_or(Ending::Newline)
+    // Stays: said here and in `shown_ending` alone, the newline of the rules is plainer than a default of endings.
+    range_ending(three, Side::Ancestor, range).unwrap_or(Ending::Newline)
 }
 
 impl<'a, S: Sink> Pen<'a, S> {

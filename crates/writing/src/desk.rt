@@ -1,10 +1,7 @@
 ghost use Rattle.std.specs.Prelude.{◌≡◌, ℕ, ◌≤◌, length};
-ghost use Rattle.std.specs.List.{AllByRecursion};
 ghost use Rattle.rules.specs.Limits.{max_filled};
-ghost use Rattle.rules.specs.Walk.{is_current};
-ghost use Rattle.rules.specs.Contraction.{Readable};
-ghost use Rattle.writing.specs.Sides.{contracted_lists, lists_differ, lists_in, lists_lent};
-ghost use Rattle.writing.specs.Desks.{Legible, split_lists};
+ghost use Rattle.writing.specs.Sides.{lists_differ, lists_lent};
+ghost use Rattle.writing.specs.Desks.{Legible, desk_contracted, desk_lists, split_lists};
 
 use crate::sides::Sides;
 use contract::zealous::zealously_contract_hunks;
@@ -24,11 +21,26 @@ pub struct Desk {
 }
 
 impl Desk {
-    /// Contracts the two sides. Answers how many of the removed hunks stand in front.
-    pub(crate) fn contract<T: ThreeSheets>(&mut self, three: &T, lead: Side) -> usize
+    /// The two sides, so many of the removed hunks in front.
+    fn sides(&self, in_front: usize) -> Sides<'_>
+        requires { in_front ≤ length self.now.removed }
+        ensures lists { lists_lent result ≡ split_lists self.now in_front }
+        ensures few { (length result.left.now ≤ max_filled) × (length result.right.now ≤ max_filled) }
+    {
+        let (front, back) = self.removed.as_slice().split_at(in_front);
+        Sides {
+            front,
+            left: self.ours.as_slice(),
+            right: self.theirs.as_slice(),
+            back,
+        }
+    }
+
+    /// Contracts the two sides, and lends them.
+    pub(crate) fn contract<T: ThreeSheets>(&mut self, three: &T, lead: Side) -> Sides<'_>
         requires { Legible (T.sheets three.now) self.old }
-        ensures count { result ≤ length self.new.removed }
-        ensures lists { split_lists self.new result ≡ contracted_lists (T.sheets three.now) (is_current lead) self.old.ours self.old.theirs }
+        ensures lists { lists_lent result ≡ desk_contracted (T.sheets three.now) lead self.old }
+        ensures few { (length result.left.now ≤ max_filled) × (length result.right.now ≤ max_filled) }
     {
         let Desk {
             ours,
@@ -40,41 +52,26 @@ impl Desk {
             Side::Current => zealously_contract_hunks(three, ours, theirs, removed),
             Side::Other | Side::Ancestor => zealously_contract_hunks(three, theirs, ours, removed),
         };
-        in_front
+        self.sides(in_front)
     }
 
-    /// Contracts the two sides, if the style does. Answers how many of the removed hunks stand in front.
+    /// Contracts the two sides, if the style does, and lends them.
     pub(crate) fn settle<T: ThreeSheets>(
         &mut self,
         three: &T,
         style: ConflictStyle,
         lead: Side,
-    ) -> usize
+    ) -> Sides<'_>
         requires { Legible (T.sheets three.now) self.old }
-        ensures count { result ≤ length self.new.removed }
-        ensures lists { split_lists self.new result ≡ lists_in style (T.sheets three.now) (is_current lead) self.old.ours self.old.theirs }
+        ensures lists { lists_lent result ≡ desk_lists style (T.sheets three.now) lead self.old }
+        ensures few { (length result.left.now ≤ max_filled) × (length result.right.now ≤ max_filled) }
     {
         match style {
             ConflictStyle::Diff3 => {
                 self.removed.truncate(0);
-                0
+                self.sides(0)
             }
             ConflictStyle::Merge | ConflictStyle::ZealousDiff3 => self.contract(three, lead),
-        }
-    }
-
-    /// The two sides, so many of the removed hunks in front.
-    pub(crate) fn sides(&self, in_front: usize) -> Sides<'_>
-        requires { in_front ≤ length self.now.removed }
-        ensures lists { lists_lent result ≡ split_lists self.now in_front }
-        ensures few { (length result.left.now ≤ max_filled) × (length result.right.now ≤ max_filled) }
-    {
-        let (front, back) = self.removed.as_slice().split_at(in_front);
-        Sides {
-            front,
-            left: self.ours.as_slice(),
-            right: self.theirs.as_slice(),
-            back,
         }
     }
 

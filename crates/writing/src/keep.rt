@@ -8,7 +8,7 @@ ghost use Rattle.writing.specs.States.{HasRoom, Wrote};
 use crate::marks::Marks;
 use crate::pen::Pen;
 use crate::sides::Sides;
-use reading::ending::{detect_line_ending, ending_before};
+use reading::ending::{detect_line_ending, range_ending};
 use reading::three::ThreeSheets;
 use rules::ending::Ending;
 use rules::hunk::{Hunk, Side, Span};
@@ -26,14 +26,14 @@ pub struct Stretch {
 fn ending_ahead<T: ThreeSheets>(three: &T, stretch: Stretch, front: &[Hunk]) -> Option<Ending>
     ensures { result ≡ before_block (T.sheets three.now) stretch.since stretch.range.start front.now }
 {
-    let from = stretch.range.start;
     if !front.is_empty() {
-        detect_line_ending(three, front)
-    } else if stretch.since < from {
-        ending_before(three, Side::Ancestor, from)
-    } else {
-        None
+        return detect_line_ending(three, front);
     }
+    let ahead = Span {
+        start: stretch.since,
+        end: stretch.range.start,
+    };
+    range_ending(three, Side::Ancestor, ahead)
 }
 
 /// The line ending of a block's markers: the one ahead of it, else that of ours, else newline.

@@ -26,10 +26,7 @@ pub struct Pen<'a, S> {
 fn is_open(ajar: bool, bytes: &[u8]) -> bool
     ensures { result ≡ left_open ajar bytes.now }
 {
-    match bytes {
-        [.., last] => *last != b'\n',
-        [] => ajar,
-    }
+    bytes.last().map_or(ajar, |last| *last != b'\n')
 }
 
 impl<'a, S: Sink> Pen<'a, S> {
