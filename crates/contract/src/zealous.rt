@@ -12,6 +12,7 @@ use reading::three::ThreeSheets;
 use rules::limits::{MAX_FILLED, MAX_REMOVED};
 
 /// The equal leading lines leave both lists; those of the lead are kept as removed.
+// Stays: a twin of contract_back in its shape alone, since each call is another one.
 fn contract_front<T: ThreeSheets>(
     three: &T,
     lead: &mut HunkList<MAX_FILLED>,
@@ -46,7 +47,6 @@ fn contract_back<T: ThreeSheets>(
     ensures facing { facing.new ≡ (shared_back_cut (T.sheets three.now) lead.old facing.old facing.old).ahead }
     ensures removed { removed.new ≡ removed.old ++ (shared_back_cut (T.sheets three.now) lead.old facing.old lead.old).behind }
 {
-    // Stays: a twin of contract_front in its shape alone, since each call is another one.
     let n = shared_back(three, lead.as_slice(), facing.as_slice());
     let ours = count_lines(lead.as_slice()) - n;
     let theirs = count_lines(facing.as_slice()) - n;
@@ -58,7 +58,7 @@ fn contract_back<T: ThreeSheets>(
 /// The longest equal run of leading lines leaves the two sides of a group, then that of trailing lines among the rest.
 /// What the lead loses is put into `removed`, front then back. Answers how many hunks of the lead were removed, how
 /// many of them stand in front, and how many remain.
-// Stays: the project fixes that the lists are handed in, three of them.
+// Stays: the project fixes that the lists are handed in and that the answer is a tuple of the three counts.
 pub fn zealously_contract_hunks<T: ThreeSheets>(
     three: &T,
     lead: &mut HunkList<MAX_FILLED>,

@@ -10,7 +10,7 @@ use Rattle.rules.specs.Endings.{ending_before, no_lines}
 use Rattle.rules.specs.Hunks.{Sheets}
 use Rattle.rules.specs.Lines.{Line}
 
--- Each hunk of a list can be read.
+-- Each hunk of a list can be read. It names the sheets, so no ghost field of a list or a side can hold it.
 abbrev pub AllReadable : Sheets → List Hunk → Type 0
 AllReadable s = AllByRecursion (Readable s)
 

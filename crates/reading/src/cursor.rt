@@ -28,6 +28,7 @@ impl<'a, T: ThreeSheets> Lines<'a, T> {
         ensures ahead { lines_ahead (T.sheets result.three.now) result ≡ side_lines (T.sheets three.now) hunks.now }
         ensures behind { lines_behind (T.sheets result.three.now) result ≡ reverse (side_lines (T.sheets three.now) hunks.now) }
     {
+        // Stays: an empty range is where a hunk that has ended leaves a cursor too, so that no hunk is begun needs no case of its own.
         Lines {
             three,
             side: Side::Ancestor,
@@ -45,6 +46,7 @@ impl<'a, T: ThreeSheets> Lines<'a, T> {
         ensures hunks { self.new.hunks.now ≡ others.now }
     {
         let read = read_range(hunk);
+        // Stays: `read.start..read.end` says at once what the cursor goes over; a conversion would have these two clauses again.
         self.side = hunk.side;
         self.begun = read.start..read.end;
         self.hunks = others;
@@ -76,8 +78,8 @@ impl<'a, T: ThreeSheets> Iterator for Forward<'a, T> {
     }
 }
 
-// Stays: the two cursors mirror each other as `next` and `next_back` do; a trait for the end would have two methods and their laws.
 /// A cursor that goes back, from the last line on.
+// Stays: the project fixes cursors of hunk and line, in place of `flat_map` and `rev`; the two share `Lines`, and differ in the end alone.
 #[derive(Drop)]
 pub(crate) struct Back<'a, T>(pub(crate) Lines<'a, T>);
 

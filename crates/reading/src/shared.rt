@@ -25,8 +25,8 @@ fn count_alike<'a, I: Iterator<Item = &'a [u8]>>(ours: I, theirs: I) -> u32
         .count() as u32
 }
 
-// Stays: the sheets and both lists are three parameters of three functions, since contraction cuts the lists between the calls.
 /// How many leading lines two lists of hunks have in common: a cursor goes forward over each.
+// Stays: the sheets and both lists are three parameters of three functions, since contraction cuts the lists between the calls.
 pub fn shared_front<T: ThreeSheets>(three: &T, a: &[Hunk], b: &[Hunk]) -> u32
     requires few { length a.now ≤ max_filled }
     requires ours { AllReadable (T.sheets three.now) a.now }
@@ -37,6 +37,7 @@ pub fn shared_front<T: ThreeSheets>(three: &T, a: &[Hunk], b: &[Hunk]) -> u32
 }
 
 /// How many trailing lines two lists of hunks have in common: a cursor goes back over each.
+// Stays: what it shares with `shared_front` is `count_alike`; the cursor that each names is all that is left.
 pub fn shared_back<T: ThreeSheets>(three: &T, a: &[Hunk], b: &[Hunk]) -> u32
     requires few { length a.now ≤ max_filled }
     requires ours { AllReadable (T.sheets three.now) a.now }

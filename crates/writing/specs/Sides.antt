@@ -1,10 +1,11 @@
 -- The two sides of a group handed over as lists of hunks, ours and theirs, and what a mode writes of them. They are what `rules` says of the group
 -- whose sides they are.
-use Rattle.std.specs.Prelude.{◌≡◌, ℕ, Bool, true, false, cond, not, List, []}
+use Rattle.std.specs.Prelude.{◌≡◌, ℕ, ◌≤◌, Bool, true, false, cond, not, List, [], length}
 use Rattle.rules.specs.declared.hunk.Hunk.{Hunk}
 use Rattle.rules.specs.declared.mode.ConflictStyle.{ConflictStyle}
 use Rattle.rules.specs.declared.mode.Conflict as modes
 use Rattle.rules.specs.declared.mode.Conflict.TheVariants.{Keep, ResolveWithOurs, ResolveWithTheirs, ResolveWithUnion}
+use Rattle.rules.specs.Limits.{max_filled}
 use Rattle.rules.specs.Lines.{same_lines}
 use Rattle.rules.specs.Hunks.{Sheets, side_lines}
 use Rattle.rules.specs.Walk.{is_current}
@@ -29,6 +30,10 @@ sides_of f l r b = record { front = f; left = l; right = r; back = b }
 -- The lists that the code lends.
 abbrev pub lists_lent : code.Sides → Sides
 lists_lent d = sides_of d.front.now d.left.now d.right.now d.back.now
+
+-- Neither side has more hunks than a working list holds.
+abbrev pub Few : code.Sides → Type 0
+Few d = (length d.left.now ≤ max_filled) × (length d.right.now ≤ max_filled)
 
 -- All four lists can be read.
 pub record Readables (s : Sheets) (d : Sides) : Type 0 where

@@ -1,8 +1,8 @@
 ghost use Rattle.std.specs.Prelude.{◌≡◌, ℕ, ◌≤◌, length};
-ghost use Rattle.rules.specs.Limits.{max_filled};
 ghost use Rattle.rules.specs.Blocks.{base_ending, base_steps, block_steps, blocked, kept_steps};
 ghost use Rattle.reading.specs.Reading.{AllReadable};
 ghost use Rattle.writing.specs.Marks.{labels_in};
+ghost use Rattle.writing.specs.Sides.{Few};
 ghost use Rattle.writing.specs.States.{HasRoom, Wrote};
 
 use crate::mark::Mark;
@@ -28,6 +28,7 @@ fn stretch_ending<T: ThreeSheets>(three: &T, range: Span) -> Ending
 
 impl<'a, S: Sink> Pen<'a, S> {
     /// Writes the ancestor's part of a block, if the style has one.
+    // Stays: that a range ends within the ancestor names the sheets, so no ghost field of the range holds it.
     fn base<T: ThreeSheets>(&mut self, three: &T, marks: Marks<'_>, range: Span)
         requires within { range.end ≤ length (T.sheets three.now).ancestor }
         requires room { HasRoom S.Sink self.old (base_steps marks.style (T.sheets three.now) marks.size (labels_in marks.labels).ancestor range.start range.end) }
@@ -76,7 +77,7 @@ impl<'a, S: Sink> Pen<'a, S> {
         sides: Sides<'_>,
     ) -> bool
         requires within { range.end ≤ length (T.sheets three.now).ancestor }
-        requires few { (length sides.left.now ≤ max_filled) × (length sides.right.now ≤ max_filled) }
+        requires few { Few sides }
         requires ours { AllReadable (T.sheets three.now) sides.left.now }
         requires theirs { AllReadable (T.sheets three.now) sides.right.now }
         requires room { HasRoom S.Sink self.old (kept_steps marks.style (T.sheets three.now) marks.size (labels_in marks.labels) ending range.start range.end sides.left.now sides.right.now) }

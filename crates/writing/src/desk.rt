@@ -1,6 +1,5 @@
 ghost use Rattle.std.specs.Prelude.{◌≡◌, ℕ, ◌≤◌, length};
-ghost use Rattle.rules.specs.Limits.{max_filled};
-ghost use Rattle.writing.specs.Sides.{lists_differ, lists_lent};
+ghost use Rattle.writing.specs.Sides.{Few, lists_differ, lists_lent};
 ghost use Rattle.writing.specs.Desks.{Legible, desk_contracted, desk_lists, split_lists};
 
 use crate::sides::Sides;
@@ -14,6 +13,7 @@ use rules::mode::ConflictStyle;
 
 /// The lists that a group is worked in: its two sides, and what contraction removes of the side that leads.
 #[derive(Drop)]
+// Stays: the lead is no field, since one desk serves all groups and the lead is the group's own.
 pub struct Desk {
     pub ours: HunkList<MAX_FILLED>,
     pub theirs: HunkList<MAX_FILLED>,
@@ -21,11 +21,11 @@ pub struct Desk {
 }
 
 impl Desk {
-    /// The two sides, so many of the removed hunks in front.
+    /// The two sides, so many of the removed hunks in front: contraction answers that number.
     fn sides(&self, in_front: usize) -> Sides<'_>
         requires { in_front ≤ length self.now.removed }
         ensures lists { lists_lent result ≡ split_lists self.now in_front }
-        ensures few { (length result.left.now ≤ max_filled) × (length result.right.now ≤ max_filled) }
+        ensures few { Few result }
     {
         let (front, back) = self.removed.as_slice().split_at(in_front);
         Sides {
@@ -40,14 +40,15 @@ impl Desk {
     pub(crate) fn contract<T: ThreeSheets>(&mut self, three: &T, lead: Side) -> Sides<'_>
         requires { Legible (T.sheets three.now) self.old }
         ensures lists { lists_lent result ≡ desk_contracted (T.sheets three.now) lead self.old }
-        ensures few { (length result.left.now ≤ max_filled) × (length result.right.now ≤ max_filled) }
+        ensures few { Few result }
     {
         let Desk {
             ours,
             theirs,
             removed,
         } = self;
-        // Stays: two calls, since the borrow checker does not cover a pair of `&mut` that a match chooses.
+        // Stays: two calls, for of a pair that a match chooses the check says "a `&mut` inside an array, a struct or another reference would
+        // stand at another lifetime than the one that the value began with".
         let (_, in_front, _) = match lead {
             Side::Current => zealously_contract_hunks(three, ours, theirs, removed),
             Side::Other | Side::Ancestor => zealously_contract_hunks(three, theirs, ours, removed),
@@ -64,7 +65,7 @@ impl Desk {
     ) -> Sides<'_>
         requires { Legible (T.sheets three.now) self.old }
         ensures lists { lists_lent result ≡ desk_lists style (T.sheets three.now) lead self.old }
-        ensures few { (length result.left.now ≤ max_filled) × (length result.right.now ≤ max_filled) }
+        ensures few { Few result }
     {
         match style {
             ConflictStyle::Diff3 => {

@@ -79,6 +79,7 @@ impl<'a, S: Sink> Pen<'a, S> {
                 };
                 self.keep_group(three, marks, stretch, lead, desk)
             }
+            // Stays: two lines for each side; what they share is `hunks` and `differ`.
             Conflict::ResolveWithOurs => {
                 self.hunks(three, desk.ours.as_slice(), Kind::Common);
                 desk.differ(three)

@@ -1,8 +1,7 @@
 ghost use Rattle.std.specs.Prelude.{◌≡◌, ℕ, ◌≤◌, length};
-ghost use Rattle.rules.specs.Limits.{max_filled};
 ghost use Rattle.rules.specs.Blocks.{before_block, marker_ending, blocked, keep_steps};
 ghost use Rattle.writing.specs.Marks.{labels_in};
-ghost use Rattle.writing.specs.Sides.{Readables, lists_lent};
+ghost use Rattle.writing.specs.Sides.{Few, Readables, lists_lent};
 ghost use Rattle.writing.specs.States.{HasRoom, Wrote};
 
 use crate::marks::Marks;
@@ -60,7 +59,7 @@ impl<'a, S: Sink> Pen<'a, S> {
         sides: Sides<'_>,
     ) -> bool
         requires within { stretch.range.end ≤ length (T.sheets three.now).ancestor }
-        requires few { (length sides.left.now ≤ max_filled) × (length sides.right.now ≤ max_filled) }
+        requires few { Few sides }
         requires readable { Readables (T.sheets three.now) (lists_lent sides) }
         requires room { HasRoom S.Sink self.old (keep_steps marks.style (T.sheets three.now) marks.size (labels_in marks.labels) stretch.since stretch.range.start stretch.range.end (lists_lent sides)) }
         ensures wrote { Wrote S.Sink self.old self.new (keep_steps marks.entry.style (T.sheets three.now) marks.entry.size (labels_in marks.entry.labels) stretch.since stretch.range.start stretch.range.end (lists_lent sides.entry)) }

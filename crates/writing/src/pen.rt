@@ -17,6 +17,8 @@ use sink::sink::Sink;
 
 /// What writes into a sink: it remembers whether a line is open.
 #[derive(Drop)]
+// Stays: the sheets are handed to each call, for as a field of the pen each of the steps that follow one another would have to say again that they
+// are the same.
 pub struct Pen<'a, S> {
     sink: &'a mut S,
     ajar: bool,
@@ -40,6 +42,7 @@ impl<'a, S: Sink> Pen<'a, S> {
     }
 
     /// Writes one piece.
+    // Stays: each method names its steps in both clauses: `HasRoom` and `Wrote` are the words, and the steps are what the method is.
     pub fn piece(&mut self, piece: Piece<'_>)
         requires { HasRoom S.Sink self.old (put (chunk piece) ∷ []) }
         ensures { Wrote S.Sink self.old self.new (put (chunk piece.entry) ∷ []) }
@@ -65,6 +68,7 @@ impl<'a, S: Sink> Pen<'a, S> {
         requires room { HasRoom S.Sink self.old (each (kind_of kind) (between (sheet_of (T.sheets three.now) side) range.start range.end)) }
         ensures { Wrote S.Sink self.old self.new (each (kind_of kind) (between (sheet_of (T.sheets three.now) side) range.start range.end)) }
     {
+        // Stays: a sheet gives a line by its number.
         for n in range.start..range.end {
             self.piece(Piece::new(kind, line_at(three, side, n)));
         }
@@ -85,6 +89,7 @@ impl<'a, S: Sink> Pen<'a, S> {
         requires room { HasRoom S.Sink self.old (each (kind_of kind) (side_lines (T.sheets three.now) hunks.now)) }
         ensures { Wrote S.Sink self.old self.new (each (kind_of kind) (side_lines (T.sheets three.now) hunks.now)) }
     {
+        // Stays: what is read of a hunk is a range of lines, which `lines` writes; a cursor over them all would write the same loop again.
         for hunk in hunks {
             self.lines(three, hunk.side, read_range(*hunk), kind);
         }

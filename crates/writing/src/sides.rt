@@ -8,6 +8,7 @@ use rules::hunk::Hunk;
 
 /// The two sides of a group: what left them ahead, what is left of ours and of theirs, and what left them behind.
 #[derive(Clone, Copy)]
+// Stays: `Few` is no ghost field, for `union` and `any_line_left` take sides of any length; left and right are the rules' names.
 pub struct Sides<'a> {
     pub front: &'a [Hunk],
     pub left: &'a [Hunk],
