@@ -9,6 +9,7 @@ use rules::hunk::Hunk;
 
 impl Place {
     /// What stands ahead of the place stays; a hunk that it cuts is lent and cut.
+    // Stays: keep_ahead, keep_behind, push_ahead and push_behind change a list in place or add to one, at one end each: four other calls.
     fn keep_ahead<const N: usize>(self, list: &mut HunkList<N>)
         requires placed { Placed self list.old }
         requires fits { length list.old ≤ N }
@@ -68,8 +69,8 @@ impl Place {
     }
 }
 
-#[tactic(auto, using(crate::proofs::Places::cut_behind))]
 /// The first `n` lines leave.
+#[tactic(auto, using(crate::proofs::Places::cut_behind))]
 // Stays: lose_front, lose_back, gain_front and gain_back name one part of one cut each; what they share is `Place`.
 pub fn lose_front<const N: usize>(list: &mut HunkList<N>, n: u32)
     ensures { list.new ≡ (cut_front n list.old).behind }
@@ -78,8 +79,8 @@ pub fn lose_front<const N: usize>(list: &mut HunkList<N>, n: u32)
     place.keep_behind(list);
 }
 
-#[tactic(auto, using(crate::proofs::Places::cut_at))]
 /// Only the first `n` lines stay.
+#[tactic(auto, using(crate::proofs::Places::cut_at))]
 pub fn lose_back<const N: usize>(list: &mut HunkList<N>, n: u32)
     ensures { list.new ≡ (cut_back n list.old).ahead }
 {
@@ -87,8 +88,8 @@ pub fn lose_back<const N: usize>(list: &mut HunkList<N>, n: u32)
     place.keep_ahead(list);
 }
 
-#[tactic(auto, using(crate::proofs::Places::cut_at))]
 /// Adds the first `n` lines of other hunks.
+#[tactic(auto, using(crate::proofs::Places::cut_at))]
 pub fn gain_front<const N: usize>(list: &mut HunkList<N>, hunks: &[Hunk], n: u32)
     requires { length list.old + length (cut_front n hunks.now).ahead ≤ N }
     ensures { list.new ≡ list.old ++ (cut_front n hunks.now).ahead }
@@ -96,8 +97,8 @@ pub fn gain_front<const N: usize>(list: &mut HunkList<N>, hunks: &[Hunk], n: u32
     Place::behind(n, hunks, Ahead::Leaves).push_ahead(list, hunks);
 }
 
-#[tactic(auto, using(crate::proofs::Places::cut_behind))]
 /// Adds what stands behind the first `n` lines of other hunks.
+#[tactic(auto, using(crate::proofs::Places::cut_behind))]
 pub fn gain_back<const N: usize>(list: &mut HunkList<N>, hunks: &[Hunk], n: u32)
     requires { length list.old + length (cut_back n hunks.now).behind ≤ N }
     ensures { list.new ≡ list.old ++ (cut_back n hunks.now).behind }

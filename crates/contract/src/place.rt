@@ -27,12 +27,13 @@ impl Ahead {
 #[derive(Clone, Copy, PartialEq, Eq, Debug)]
 pub struct Place {
     pub whole: usize,
+    // Stays: 0 where no hunk is cut is the number of lines itself, and no stand-in for one.
     pub lines: u32,
 }
 
 impl Place {
-    #[tactic(auto, using(crate::proofs::Places::past, crate::proofs::Places::halt, crate::proofs::Places::end, crate::proofs::Places::placed))]
     /// The place behind the first `n` lines.
+    #[tactic(auto, using(crate::proofs::Places::past, crate::proofs::Places::halt, crate::proofs::Places::end, crate::proofs::Places::placed))]
     pub fn behind(n: u32, hunks: &[Hunk], ahead: Ahead) -> Place
         ensures value { result ≡ place ahead n hunks.now }
         ensures placed { Placed result hunks.now }

@@ -1,8 +1,7 @@
 ghost use Rattle.std.specs.Prelude.{◌≡◌, ℕ, ◌+◌, ◌≤◌, ◌++◌, length};
-ghost use Rattle.std.specs.List.{AllByRecursion};
 ghost use Rattle.rules.specs.Limits.{max_filled, max_removed};
 ghost use Rattle.rules.specs.Contraction.{contracted};
-ghost use Rattle.rules.specs.Contraction.{Readable};
+ghost use Rattle.reading.specs.Reading.{AllReadable};
 ghost use Rattle.contract.specs.Ends.{shared_front_cut, shared_back_cut, removed_of, counts_of};
 
 use crate::list::{gain_back, gain_front, lose_back, lose_front};
@@ -13,18 +12,19 @@ use reading::three::ThreeSheets;
 use rules::limits::{MAX_FILLED, MAX_REMOVED};
 
 /// The equal leading lines leave both lists; those of the lead are kept as removed.
+// Stays: a twin of contract_back in its shape alone, since each call is another one.
 fn contract_front<T: ThreeSheets>(
     three: &T,
     lead: &mut HunkList<MAX_FILLED>,
     facing: &mut HunkList<MAX_FILLED>,
     removed: &mut HunkList<MAX_REMOVED>,
 )
-    requires ours { AllByRecursion (Readable (T.ThreeSheets.sheets three.now)) lead.old }
-    requires theirs { AllByRecursion (Readable (T.ThreeSheets.sheets three.now)) facing.old }
+    requires ours { AllReadable (T.sheets three.now) lead.old }
+    requires theirs { AllReadable (T.sheets three.now) facing.old }
     ensures few { length lead.old ≤ max_filled }
-    ensures lead { lead.new ≡ (shared_front_cut (T.ThreeSheets.sheets three.now) lead.old facing.old lead.old).behind }
-    ensures facing { facing.new ≡ (shared_front_cut (T.ThreeSheets.sheets three.now) lead.old facing.old facing.old).behind }
-    ensures removed { removed.new ≡ (shared_front_cut (T.ThreeSheets.sheets three.now) lead.old facing.old lead.old).ahead }
+    ensures lead { lead.new ≡ (shared_front_cut (T.sheets three.now) lead.old facing.old lead.old).behind }
+    ensures facing { facing.new ≡ (shared_front_cut (T.sheets three.now) lead.old facing.old facing.old).behind }
+    ensures removed { removed.new ≡ (shared_front_cut (T.sheets three.now) lead.old facing.old lead.old).ahead }
 {
     let n = shared_front(three, lead.as_slice(), facing.as_slice());
     removed.truncate(0);
@@ -40,14 +40,13 @@ fn contract_back<T: ThreeSheets>(
     facing: &mut HunkList<MAX_FILLED>,
     removed: &mut HunkList<MAX_REMOVED>,
 )
-    requires ours { AllByRecursion (Readable (T.ThreeSheets.sheets three.now)) lead.old }
-    requires theirs { AllByRecursion (Readable (T.ThreeSheets.sheets three.now)) facing.old }
+    requires ours { AllReadable (T.sheets three.now) lead.old }
+    requires theirs { AllReadable (T.sheets three.now) facing.old }
     requires room { length removed.old + length lead.old ≤ max_removed }
-    ensures lead { lead.new ≡ (shared_back_cut (T.ThreeSheets.sheets three.now) lead.old facing.old lead.old).ahead }
-    ensures facing { facing.new ≡ (shared_back_cut (T.ThreeSheets.sheets three.now) lead.old facing.old facing.old).ahead }
-    ensures removed { removed.new ≡ removed.old ++ (shared_back_cut (T.ThreeSheets.sheets three.now) lead.old facing.old lead.old).behind }
+    ensures lead { lead.new ≡ (shared_back_cut (T.sheets three.now) lead.old facing.old lead.old).ahead }
+    ensures facing { facing.new ≡ (shared_back_cut (T.sheets three.now) lead.old facing.old facing.old).ahead }
+    ensures removed { removed.new ≡ removed.old ++ (shared_back_cut (T.sheets three.now) lead.old facing.old lead.old).behind }
 {
-    // Stays: a twin of contract_front in its shape alone, since each call is another one.
     let n = shared_back(three, lead.as_slice(), facing.as_slice());
     let ours = count_lines(lead.as_slice()) - n;
     let theirs = count_lines(facing.as_slice()) - n;
@@ -59,19 +58,19 @@ fn contract_back<T: ThreeSheets>(
 /// The longest equal run of leading lines leaves the two sides of a group, then that of trailing lines among the rest.
 /// What the lead loses is put into `removed`, front then back. Answers how many hunks of the lead were removed, how
 /// many of them stand in front, and how many remain.
-// Stays: the project fixes that the lists are handed in, three of them.
+// Stays: the project fixes that the lists are handed in and that the answer is a tuple of the three counts.
 pub fn zealously_contract_hunks<T: ThreeSheets>(
     three: &T,
     lead: &mut HunkList<MAX_FILLED>,
     facing: &mut HunkList<MAX_FILLED>,
     removed: &mut HunkList<MAX_REMOVED>,
 ) -> (usize, usize, usize)
-    requires ours { AllByRecursion (Readable (T.ThreeSheets.sheets three.now)) lead.old }
-    requires theirs { AllByRecursion (Readable (T.ThreeSheets.sheets three.now)) facing.old }
-    ensures lead { lead.new ≡ (contracted (T.ThreeSheets.sheets three.now) lead.old facing.old).lead }
-    ensures facing { facing.new ≡ (contracted (T.ThreeSheets.sheets three.now) lead.old facing.old).facing }
-    ensures removed { removed.new ≡ removed_of (contracted (T.ThreeSheets.sheets three.now) lead.old facing.old) }
-    ensures counts { result ≡ counts_of (contracted (T.ThreeSheets.sheets three.now) lead.old facing.old) }
+    requires ours { AllReadable (T.sheets three.now) lead.old }
+    requires theirs { AllReadable (T.sheets three.now) facing.old }
+    ensures lead { lead.new ≡ (contracted (T.sheets three.now) lead.old facing.old).lead }
+    ensures facing { facing.new ≡ (contracted (T.sheets three.now) lead.old facing.old).facing }
+    ensures removed { removed.new ≡ removed_of (contracted (T.sheets three.now) lead.old facing.old) }
+    ensures counts { result ≡ counts_of (contracted (T.sheets three.now) lead.old facing.old) }
 {
     contract_front(three, lead, facing, removed);
     let in_front = removed.len();

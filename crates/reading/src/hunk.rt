@@ -27,15 +27,16 @@ pub fn lines_of(hunk: Hunk) -> u32
 
 /// Line `n` of the sheet that the side names, and no bytes past the last.
 pub fn line_at<T: ThreeSheets>(three: &T, side: Side, n: u32) -> &[u8]
-    ensures { result.now ≡ slice_index_or (sheet_of (T.ThreeSheets.sheets three.now) side) n [] }
+    ensures { result.now ≡ slice_index_or (sheet_of (T.sheets three.now) side) n [] }
 {
     three.line_of(side, n).unwrap_or(&[])
 }
 
 /// Line `k` of a hunk.
+// Stays: no crate here asks by the number of a line, but the function is public and its promise is stated nowhere else.
 pub fn line_in<T: ThreeSheets>(three: &T, hunk: Hunk, k: u32) -> &[u8]
     requires { k < hunk_size hunk }
-    ensures { result.now ≡ slice_index_or (hunk_lines (T.ThreeSheets.sheets three.now) hunk) k [] }
+    ensures { result.now ≡ slice_index_or (hunk_lines (T.sheets three.now) hunk) k [] }
 {
     line_at(three, hunk.side, read_range(hunk).start + k)
 }
@@ -52,7 +53,7 @@ pub fn count_lines(hunks: &[Hunk]) -> u32
 pub fn contains_lines(hunks: &[Hunk]) -> bool
     ensures { result ≡ any_lines hunks.now }
 {
-    // Stays: the project fixes a `for` over the hunks here, without an index.
+    // Stays: the project fixes that this test over a filled list is a `for` over its hunks, as the one over the opposite hunks is.
     for hunk in hunks {
         if lines_of(*hunk) > 0 {
             return true;

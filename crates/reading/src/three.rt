@@ -49,6 +49,7 @@ pub fn sheets_of<'a, A: Sheet, C: Sheet, O: Sheet>(
 }
 
 /// Line `n` of the sheet that the side names, borrowed from that sheet.
+// Stays: the project fixes this call, whose answer outlives the borrow of the three; `line_of` answers for as long as that borrow.
 pub fn line_for_side<'a, A: Sheet, C: Sheet, O: Sheet>(
     sheets: &Sheets<'a, A, C, O>,
     side: Side,
@@ -69,6 +70,7 @@ impl<'a, A: Sheet, C: Sheet, O: Sheet> ThreeSheets for Sheets<'a, A, C, O> {
     ghost formed = { λ s. three_formed (A.Sheet.sheet s.ancestor.now) (C.Sheet.sheet s.current.now) (O.Sheet.sheet s.other.now) };
 
     fn count_of(&self, side: Side) -> u32 {
+        // Stays: the sheets are of three types, so no reference to one of them serves this match and that of `line_for_side`.
         match side {
             Side::Ancestor => self.ancestor.count(),
             Side::Current => self.current.count(),

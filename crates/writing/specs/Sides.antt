@@ -1,17 +1,17 @@
 -- The two sides of a group handed over as lists of hunks, ours and theirs, and what a mode writes of them. They are what `rules` says of the group
 -- whose sides they are.
-use Rattle.std.specs.Prelude.{◌≡◌, ℕ, Bool, true, false, cond, not, List, []}
-use Rattle.std.specs.List.{AllByRecursion}
+use Rattle.std.specs.Prelude.{◌≡◌, ℕ, ◌≤◌, Bool, true, false, cond, not, List, [], length}
 use Rattle.rules.specs.declared.hunk.Hunk.{Hunk}
 use Rattle.rules.specs.declared.mode.ConflictStyle.{ConflictStyle}
 use Rattle.rules.specs.declared.mode.Conflict as modes
 use Rattle.rules.specs.declared.mode.Conflict.TheVariants.{Keep, ResolveWithOurs, ResolveWithTheirs, ResolveWithUnion}
+use Rattle.rules.specs.Limits.{max_filled}
 use Rattle.rules.specs.Lines.{same_lines}
 use Rattle.rules.specs.Hunks.{Sheets, side_lines}
 use Rattle.rules.specs.Walk.{is_current}
 use Rattle.rules.specs.Groups.{Cluster, from, to}
 use Rattle.rules.specs.Filling.{ours_of, theirs_of}
-use Rattle.rules.specs.Contraction.{Readable, contracted}
+use Rattle.rules.specs.Contraction.{contracted}
 use Rattle.rules.specs.Sides.{Sides, by_lead, contracts}
 use Rattle.rules.specs.Pieces.{common}
 use Rattle.rules.specs.Steps.{Step, each}
@@ -20,6 +20,7 @@ use Rattle.rules.specs.Blocks.{keep_steps, blocked}
 use Rattle.rules.specs.Unions.{union_steps}
 use Rattle.rules.specs.Rendering.{group_steps}
 use Rattle.rules.specs.Verdict.{marks}
+use Rattle.reading.specs.Reading.{AllReadable}
 use Rattle.writing.specs.declared.sides.Sides as code
 
 -- What left two sides ahead, what is left of ours and of theirs, and what left them behind.
@@ -30,12 +31,16 @@ sides_of f l r b = record { front = f; left = l; right = r; back = b }
 abbrev pub lists_lent : code.Sides → Sides
 lists_lent d = sides_of d.front.now d.left.now d.right.now d.back.now
 
+-- Neither side has more hunks than a working list holds.
+abbrev pub Few : code.Sides → Type 0
+Few d = (length d.left.now ≤ max_filled) × (length d.right.now ≤ max_filled)
+
 -- All four lists can be read.
 pub record Readables (s : Sheets) (d : Sides) : Type 0 where
-  pub front : AllByRecursion (Readable s) d.front
-  pub left : AllByRecursion (Readable s) d.left
-  pub right : AllByRecursion (Readable s) d.right
-  pub back : AllByRecursion (Readable s) d.back
+  pub front : AllReadable s d.front
+  pub left : AllReadable s d.left
+  pub right : AllReadable s d.right
+  pub back : AllReadable s d.back
 
 -- Ours and theirs contracted; the lead is ours or theirs.
 abbrev pub contracted_lists : Sheets → Bool → List Hunk → List Hunk → Sides

@@ -1,16 +1,15 @@
 ghost use Rattle.std.specs.Prelude.{◌≡◌, ℕ, ◌≤◌, length};
-ghost use Rattle.std.specs.List.{AllByRecursion};
-ghost use Rattle.rules.specs.Limits.{max_filled};
-ghost use Rattle.rules.specs.Contraction.{Readable};
 ghost use Rattle.rules.specs.Blocks.{base_ending, base_steps, block_steps, blocked, kept_steps};
+ghost use Rattle.reading.specs.Reading.{AllReadable};
 ghost use Rattle.writing.specs.Marks.{labels_in};
+ghost use Rattle.writing.specs.Sides.{Few};
 ghost use Rattle.writing.specs.States.{HasRoom, Wrote};
 
 use crate::mark::Mark;
 use crate::marks::Marks;
 use crate::pen::Pen;
 use crate::sides::Sides;
-use reading::ending::ending_before;
+use reading::ending::range_ending;
 use reading::shared::hunks_differ;
 use reading::three::ThreeSheets;
 use rules::ending::Ending;
@@ -23,14 +22,13 @@ use sink::sink::Sink;
 fn stretch_ending<T: ThreeSheets>(three: &T, range: Span) -> Ending
     ensures { result ≡ base_ending (T.sheets three.now) range.start range.end }
 {
-    if range.is_empty() {
-        return Ending::Newline;
-    }
-    ending_before(three, Side::Ancestor, range.end).unwrap_or(Ending::Newline)
+    // Stays: said here and in `shown_ending` alone, the newline of the rules is plainer than a default of endings.
+    range_ending(three, Side::Ancestor, range).unwrap_or(Ending::Newline)
 }
 
 impl<'a, S: Sink> Pen<'a, S> {
     /// Writes the ancestor's part of a block, if the style has one.
+    // Stays: that a range ends within the ancestor names the sheets, so no ghost field of the range holds it.
     fn base<T: ThreeSheets>(&mut self, three: &T, marks: Marks<'_>, range: Span)
         requires within { range.end ≤ length (T.sheets three.now).ancestor }
         requires room { HasRoom S.Sink self.old (base_steps marks.style (T.sheets three.now) marks.size (labels_in marks.labels).ancestor range.start range.end) }
@@ -56,8 +54,8 @@ impl<'a, S: Sink> Pen<'a, S> {
         sides: Sides<'_>,
     )
         requires within { range.end ≤ length (T.sheets three.now).ancestor }
-        requires ours { AllByRecursion (Readable (T.sheets three.now)) sides.left.now }
-        requires theirs { AllByRecursion (Readable (T.sheets three.now)) sides.right.now }
+        requires ours { AllReadable (T.sheets three.now) sides.left.now }
+        requires theirs { AllReadable (T.sheets three.now) sides.right.now }
         requires room { HasRoom S.Sink self.old (block_steps marks.style (T.sheets three.now) marks.size (labels_in marks.labels) ending range.start range.end sides.left.now sides.right.now) }
         ensures { Wrote S.Sink self.old self.new (block_steps marks.entry.style (T.sheets three.now) marks.entry.size (labels_in marks.entry.labels) ending range.start range.end sides.entry.left.now sides.entry.right.now) }
     {
@@ -79,9 +77,9 @@ impl<'a, S: Sink> Pen<'a, S> {
         sides: Sides<'_>,
     ) -> bool
         requires within { range.end ≤ length (T.sheets three.now).ancestor }
-        requires few { (length sides.left.now ≤ max_filled) × (length sides.right.now ≤ max_filled) }
-        requires ours { AllByRecursion (Readable (T.sheets three.now)) sides.left.now }
-        requires theirs { AllByRecursion (Readable (T.sheets three.now)) sides.right.now }
+        requires few { Few sides }
+        requires ours { AllReadable (T.sheets three.now) sides.left.now }
+        requires theirs { AllReadable (T.sheets three.now) sides.right.now }
         requires room { HasRoom S.Sink self.old (kept_steps marks.style (T.sheets three.now) marks.size (labels_in marks.labels) ending range.start range.end sides.left.now sides.right.now) }
         ensures wrote { Wrote S.Sink self.old self.new (kept_steps marks.entry.style (T.sheets three.now) marks.entry.size (labels_in marks.entry.labels) ending range.start range.end sides.entry.left.now sides.entry.right.now) }
         ensures block { result ≡ blocked marks.entry.style (T.sheets three.now) sides.entry.left.now sides.entry.right.now }

@@ -3,9 +3,9 @@ ghost use Rattle.rules.specs.Limits.{max_marker_size};
 ghost use Rattle.rules.specs.Walk.{is_current};
 ghost use Rattle.rules.specs.Blocks.{blocked, keep_steps};
 ghost use Rattle.rules.specs.Unions.{union_steps};
-ghost use Rattle.writing.specs.Desks.{Legible};
+ghost use Rattle.writing.specs.Desks.{Legible, desk_contracted, desk_lists};
 ghost use Rattle.writing.specs.Marks.{labels_in};
-ghost use Rattle.writing.specs.Sides.{contracted_lists, lists_in, lists_differ, lists_steps, lists_marked, size_of, GroupsTold};
+ghost use Rattle.writing.specs.Sides.{lists_differ, lists_steps, lists_marked, size_of, GroupsTold};
 ghost use Rattle.writing.specs.States.{HasRoom, Wrote};
 
 use crate::desk::Desk;
@@ -21,7 +21,7 @@ use sink::piece::Kind;
 use sink::sink::Sink;
 
 impl<'a, S: Sink> Pen<'a, S> {
-    /// Writes a group under Keep. Answers whether a block was written.
+    /// Settles a group's lists and writes it under Keep. Answers whether a block was written.
     fn keep_group<T: ThreeSheets>(
         &mut self,
         three: &T,
@@ -32,23 +32,22 @@ impl<'a, S: Sink> Pen<'a, S> {
     ) -> bool
         requires within { stretch.range.end ≤ length (T.sheets three.now).ancestor }
         requires legible { Legible (T.sheets three.now) desk.old }
-        requires room { HasRoom S.Sink self.old (keep_steps marks.style (T.sheets three.now) marks.size (labels_in marks.labels) stretch.since stretch.range.start stretch.range.end (lists_in marks.style (T.sheets three.now) (is_current lead) desk.old.ours desk.old.theirs)) }
-        ensures wrote { Wrote S.Sink self.old self.new (keep_steps marks.entry.style (T.sheets three.now) marks.entry.size (labels_in marks.entry.labels) stretch.since stretch.range.start stretch.range.end (lists_in marks.entry.style (T.sheets three.now) (is_current lead) desk.old.ours desk.old.theirs)) }
-        ensures block { result ≡ blocked marks.entry.style (T.sheets three.now) (lists_in marks.entry.style (T.sheets three.now) (is_current lead) desk.old.ours desk.old.theirs).left (lists_in marks.entry.style (T.sheets three.now) (is_current lead) desk.old.ours desk.old.theirs).right }
+        requires room { HasRoom S.Sink self.old (keep_steps marks.style (T.sheets three.now) marks.size (labels_in marks.labels) stretch.since stretch.range.start stretch.range.end (desk_lists marks.style (T.sheets three.now) lead desk.old)) }
+        ensures wrote { Wrote S.Sink self.old self.new (keep_steps marks.entry.style (T.sheets three.now) marks.entry.size (labels_in marks.entry.labels) stretch.since stretch.range.start stretch.range.end (desk_lists marks.entry.style (T.sheets three.now) lead desk.old)) }
+        ensures block { result ≡ blocked marks.entry.style (T.sheets three.now) (desk_lists marks.entry.style (T.sheets three.now) lead desk.old).left (desk_lists marks.entry.style (T.sheets three.now) lead desk.old).right }
     {
-        let in_front = desk.settle(three, marks.style, lead);
-        self.keep(three, marks, stretch, desk.sides(in_front))
+        let sides = desk.settle(three, marks.style, lead);
+        self.keep(three, marks, stretch, sides)
     }
 
-    /// Writes a group under Union. Answers whether what is left of the sides differs.
+    /// Contracts a group's lists and writes it under Union. Answers whether what is left of the sides differs.
     fn union_group<T: ThreeSheets>(&mut self, three: &T, lead: Side, desk: &mut Desk) -> bool
         requires legible { Legible (T.sheets three.now) desk.old }
-        requires room { HasRoom S.Sink self.old (union_steps (T.sheets three.now) (contracted_lists (T.sheets three.now) (is_current lead) desk.old.ours desk.old.theirs)) }
-        ensures wrote { Wrote S.Sink self.old self.new (union_steps (T.sheets three.now) (contracted_lists (T.sheets three.now) (is_current lead) desk.old.ours desk.old.theirs)) }
-        ensures marked { result ≡ lists_differ (T.sheets three.now) (contracted_lists (T.sheets three.now) (is_current lead) desk.old.ours desk.old.theirs).left (contracted_lists (T.sheets three.now) (is_current lead) desk.old.ours desk.old.theirs).right }
+        requires room { HasRoom S.Sink self.old (union_steps (T.sheets three.now) (desk_contracted (T.sheets three.now) lead desk.old)) }
+        ensures wrote { Wrote S.Sink self.old self.new (union_steps (T.sheets three.now) (desk_contracted (T.sheets three.now) lead desk.old)) }
+        ensures marked { result ≡ lists_differ (T.sheets three.now) (desk_contracted (T.sheets three.now) lead desk.old).left (desk_contracted (T.sheets three.now) lead desk.old).right }
     {
-        let in_front = desk.contract(three, lead);
-        let sides = desk.sides(in_front);
+        let sides = desk.contract(three, lead);
         self.union(three, sides);
         hunks_differ(three, sides.left, sides.right)
     }
@@ -80,6 +79,7 @@ impl<'a, S: Sink> Pen<'a, S> {
                 };
                 self.keep_group(three, marks, stretch, lead, desk)
             }
+            // Stays: two lines for each side; what they share is `hunks` and `differ`.
             Conflict::ResolveWithOurs => {
                 self.hunks(three, desk.ours.as_slice(), Kind::Common);
                 desk.differ(three)

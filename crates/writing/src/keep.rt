@@ -1,14 +1,13 @@
 ghost use Rattle.std.specs.Prelude.{◌≡◌, ℕ, ◌≤◌, length};
-ghost use Rattle.rules.specs.Limits.{max_filled};
 ghost use Rattle.rules.specs.Blocks.{before_block, marker_ending, blocked, keep_steps};
 ghost use Rattle.writing.specs.Marks.{labels_in};
-ghost use Rattle.writing.specs.Sides.{Readables, lists_lent};
+ghost use Rattle.writing.specs.Sides.{Few, Readables, lists_lent};
 ghost use Rattle.writing.specs.States.{HasRoom, Wrote};
 
 use crate::marks::Marks;
 use crate::pen::Pen;
 use crate::sides::Sides;
-use reading::ending::{detect_line_ending, ending_before};
+use reading::ending::{detect_line_ending, range_ending};
 use reading::three::ThreeSheets;
 use rules::ending::Ending;
 use rules::hunk::{Hunk, Side, Span};
@@ -26,14 +25,14 @@ pub struct Stretch {
 fn ending_ahead<T: ThreeSheets>(three: &T, stretch: Stretch, front: &[Hunk]) -> Option<Ending>
     ensures { result ≡ before_block (T.sheets three.now) stretch.since stretch.range.start front.now }
 {
-    let from = stretch.range.start;
     if !front.is_empty() {
-        detect_line_ending(three, front)
-    } else if stretch.since < from {
-        ending_before(three, Side::Ancestor, from)
-    } else {
-        None
+        return detect_line_ending(three, front);
     }
+    let ahead = Span {
+        start: stretch.since,
+        end: stretch.range.start,
+    };
+    range_ending(three, Side::Ancestor, ahead)
 }
 
 /// The line ending of a block's markers: the one ahead of it, else that of ours, else newline.
@@ -60,7 +59,7 @@ impl<'a, S: Sink> Pen<'a, S> {
         sides: Sides<'_>,
     ) -> bool
         requires within { stretch.range.end ≤ length (T.sheets three.now).ancestor }
-        requires few { (length sides.left.now ≤ max_filled) × (length sides.right.now ≤ max_filled) }
+        requires few { Few sides }
         requires readable { Readables (T.sheets three.now) (lists_lent sides) }
         requires room { HasRoom S.Sink self.old (keep_steps marks.style (T.sheets three.now) marks.size (labels_in marks.labels) stretch.since stretch.range.start stretch.range.end (lists_lent sides)) }
         ensures wrote { Wrote S.Sink self.old self.new (keep_steps marks.entry.style (T.sheets three.now) marks.entry.size (labels_in marks.entry.labels) stretch.since stretch.range.start stretch.range.end (lists_lent sides.entry)) }

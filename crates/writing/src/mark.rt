@@ -26,6 +26,7 @@ impl Mark {
     fn run(self) -> &'static [u8; MAX_MARKER_SIZE as usize]
         ensures { result.now ≡ replicate max_marker_size (mark_byte self) }
     {
+        // Stays: an array that is borrowed for good needs its byte where it stands, so each mark has an arm.
         match self {
             Mark::Ours => &[b'<'; MAX_MARKER_SIZE as usize],
             Mark::Base => &[b'|'; MAX_MARKER_SIZE as usize],

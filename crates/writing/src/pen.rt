@@ -1,10 +1,9 @@
 ghost use Rattle.std.specs.Prelude.{◌≡◌, ℕ, ◌≤◌, false, List, [], ◌∷◌, length};
-ghost use Rattle.std.specs.List.{AllByRecursion};
 ghost use Rattle.rules.specs.Hunks.{sheet_of, side_lines};
 ghost use Rattle.rules.specs.Lines.{between};
-ghost use Rattle.rules.specs.Contraction.{Readable};
 ghost use Rattle.rules.specs.Pieces.{common};
 ghost use Rattle.rules.specs.Steps.{put, close, each, left_open};
+ghost use Rattle.reading.specs.Reading.{AllReadable};
 ghost use Rattle.sink.specs.Pieces.{chunk, kind_of};
 ghost use Rattle.writing.specs.States.{HasRoom, Wrote};
 
@@ -18,6 +17,8 @@ use sink::sink::Sink;
 
 /// What writes into a sink: it remembers whether a line is open.
 #[derive(Drop)]
+// Stays: the sheets are handed to each call, for as a field of the pen each of the steps that follow one another would have to say again that they
+// are the same.
 pub struct Pen<'a, S> {
     sink: &'a mut S,
     ajar: bool,
@@ -27,10 +28,7 @@ pub struct Pen<'a, S> {
 fn is_open(ajar: bool, bytes: &[u8]) -> bool
     ensures { result ≡ left_open ajar bytes.now }
 {
-    match bytes {
-        [.., last] => *last != b'\n',
-        [] => ajar,
-    }
+    bytes.last().map_or(ajar, |last| *last != b'\n')
 }
 
 impl<'a, S: Sink> Pen<'a, S> {
@@ -44,6 +42,7 @@ impl<'a, S: Sink> Pen<'a, S> {
     }
 
     /// Writes one piece.
+    // Stays: each method names its steps in both clauses: `HasRoom` and `Wrote` are the words, and the steps are what the method is.
     pub fn piece(&mut self, piece: Piece<'_>)
         requires { HasRoom S.Sink self.old (put (chunk piece) ∷ []) }
         ensures { Wrote S.Sink self.old self.new (put (chunk piece.entry) ∷ []) }
@@ -69,6 +68,7 @@ impl<'a, S: Sink> Pen<'a, S> {
         requires room { HasRoom S.Sink self.old (each (kind_of kind) (between (sheet_of (T.sheets three.now) side) range.start range.end)) }
         ensures { Wrote S.Sink self.old self.new (each (kind_of kind) (between (sheet_of (T.sheets three.now) side) range.start range.end)) }
     {
+        // Stays: a sheet gives a line by its number.
         for n in range.start..range.end {
             self.piece(Piece::new(kind, line_at(three, side, n)));
         }
@@ -85,10 +85,11 @@ impl<'a, S: Sink> Pen<'a, S> {
 
     /// Writes the lines of the hunks.
     pub fn hunks<T: ThreeSheets>(&mut self, three: &T, hunks: &[Hunk], kind: Kind)
-        requires readable { AllByRecursion (Readable (T.sheets three.now)) hunks.now }
+        requires readable { AllReadable (T.sheets three.now) hunks.now }
         requires room { HasRoom S.Sink self.old (each (kind_of kind) (side_lines (T.sheets three.now) hunks.now)) }
         ensures { Wrote S.Sink self.old self.new (each (kind_of kind) (side_lines (T.sheets three.now) hunks.now)) }
     {
+        // Stays: what is read of a hunk is a range of lines, which `lines` writes; a cursor over them all would write the same loop again.
         for hunk in hunks {
             self.lines(three, hunk.side, read_range(*hunk), kind);
         }
