@@ -11,7 +11,3 @@ table_of t = record {
   current = t.current.hunks;
   other = t.other.hunks;
 }
-
--- The table of the rules: clauses see a table as this.
-abbrev pub model : Held → Held
-model t = t

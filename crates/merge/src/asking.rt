@@ -19,15 +19,21 @@ use rules::limits::{MAX_LABEL, MAX_MARKER_SIZE};
 use rules::mode::Conflict;
 use rules::refusal::RenderRefusal;
 
+// One question: yes, or its refusal.
+fn asked(fits: bool, refusal: RenderRefusal) -> Result<(), RenderRefusal>
+    ensures { result ≡ answered (ask fits refusal None) tt }
+{
+    if fits { Ok(()) } else { Err(refusal) }
+}
+
 // A sheet has the count of lines that the table was opened with.
 fn ask_count<T: ThreeSheets>(three: &T, table: &HunkTable, side: Side) -> Result<(), RenderRefusal>
     ensures { result ≡ answered (ask (length (sheet_of (T.sheets three.now) side) == count_of table.now side) (CountsDiffer side) None) tt }
 {
-    if three.count_of(side) == table.lines(side) {
-        Ok(())
-    } else {
-        Err(RenderRefusal::CountsDiffer(side))
-    }
+    asked(
+        three.count_of(side) == table.lines(side),
+        RenderRefusal::CountsDiffer(side),
+    )
 }
 
 // The marker size is asked for under Keep alone.
@@ -35,7 +41,8 @@ fn ask_marker_size(mode: Conflict) -> Result<(), RenderRefusal>
     ensures { result ≡ answered (ask (size_fits mode) MarkerSize None) tt }
 {
     match mode {
-        Conflict::Keep { marker_size, .. } if !(1..=MAX_MARKER_SIZE).contains(&marker_size) => Err(
+        Conflict::Keep { marker_size, .. } => asked(
+            (1..=MAX_MARKER_SIZE).contains(&marker_size),
             RenderRefusal::MarkerSize,
         ),
         _ => Ok(()),
@@ -45,11 +52,10 @@ fn ask_marker_size(mode: Conflict) -> Result<(), RenderRefusal>
 fn ask_label(label: Option<&[u8]>, side: Side) -> Result<(), RenderRefusal>
     ensures { result ≡ answered (ask (label_fits (option_map (λ x. x.now) label.entry)) (LabelTooLong side) None) tt }
 {
-    if label.is_none_or(|bytes| bytes.len() <= MAX_LABEL) {
-        Ok(())
-    } else {
-        Err(RenderRefusal::LabelTooLong(side))
-    }
+    asked(
+        label.is_none_or(|bytes| bytes.len() <= MAX_LABEL),
+        RenderRefusal::LabelTooLong(side),
+    )
 }
 
 // Asks for the sheets' counts, the marker size and the labels, in this order: the first that does not fit is refused.
@@ -70,6 +76,8 @@ fn ask<T: ThreeSheets>(
     ask_label(labels.other, Side::Other)
 }
 
+// Stays: (d) `keeps` says the table's invariant again, here and in `render`: a caller is told it by clauses alone, as `HunkTable::current` tells it here.
+// Stays: (c) with `ask(..).map(|()| Rendering { .. })` the contract that the check infers of the closure says nothing of the rendering made (`Unit`).
 /// The rendering of three sheets and the hunks held, or the first refusal.
 pub fn admit<'a, T: ThreeSheets>(
     three: &'a T,
@@ -80,13 +88,13 @@ pub fn admit<'a, T: ThreeSheets>(
     ensures answer { MatchResult result (λ rendering. Admits T.ThreeSheets table.now (T.sheets three.now) mode (labels_in labels.entry) rendering) (λ why. size_questions table.now (T.sheets three.now) mode (labels_in labels.entry) ≡ Some why) }
     ensures keeps { TableKeeps table.now }
 {
-    let (ours, theirs) = (table.current(), table.other());
+    let (current, other) = (table.current(), table.other());
     ask(three, table, mode, labels)?;
     Ok(Rendering {
         three,
         mode,
         labels,
-        current: ours,
-        other: theirs,
+        current,
+        other,
     })
 }

@@ -14,6 +14,7 @@ use rules::mode::{Conflict, Resolution};
 use rules::refusal::{RenderRefusal, TableRefusal};
 use sink::sink::Sink;
 
+// Stays: (d) not the table's own enum of calls: a run opens its table itself, and a render is no call to a table.
 /// A call to a unit's table, or a render of it.
 #[derive(Clone, Copy)]
 pub enum Call<'a> {
@@ -29,6 +30,7 @@ pub enum Answer {
     Judged(Result<Resolution, RenderRefusal>),
 }
 
+// Stays: (d) the calls of a run are values, which the rules of runs go over; so one of them is made by a match.
 // One call, a render into the sink; and its answer.
 fn make_call<T: ThreeSheets, S: Sink>(
     three: &T,
@@ -48,8 +50,8 @@ fn make_call<T: ThreeSheets, S: Sink>(
     }
 }
 
+// Stays: (c) by its index: with `if let Some(place) = answers.get_mut(n)` the check left the loop's goal open (`loop-n-preserved`).
 // Notes an answer at place n, if there is one.
-// Stays: (c) after `answers.get_mut(n)`, and over `answers.iter_mut()`, a proof knows the length of the slice alone.
 fn note(answers: &mut [Answer], n: usize, answer: Answer)
     ensures { answers.new ≡ slice_set answers.old n answer }
 {
@@ -58,7 +60,10 @@ fn note(answers: &mut [Answer], n: usize, answer: Answer)
     }
 }
 
-/// Opens the table with the three sheets' counts of lines and makes the calls in order, each render into the sink; one that is refused changes nothing, and the next is made. The answers are noted from the front of `answers`, as many as there are places. Answers what the opening did.
+// Stays: (a) a Result, though the sheets' counts are always accepted: `opened` and `answers` name what the opening answered, and callers are promised it.
+/// Opens the table with the three sheets' counts of lines and makes the calls in order, each render into the sink.
+/// A call that is refused changes nothing, and the next is made.
+/// The answers are noted from the front of `answers`, as many as there are places. Answers what the opening did.
 pub fn run<T: ThreeSheets, S: Sink>(
     three: &T,
     table: &mut HunkTable,

@@ -14,6 +14,7 @@ pub(crate) struct Walk<'a> {
     pub(crate) other: &'a [Hunk],
 }
 
+// Stays: (d) the fields that have a walk's names hold other things: a turn's lists are the hunks taken, a walk's those that are left.
 /// A cluster taken off the walk, with its hunks of both sides, and the line at which the one before it ended.
 #[derive(Clone, Copy)]
 pub(crate) struct Turn<'a> {

@@ -1,4 +1,4 @@
-//! The whole rendering, cluster by cluster, into any sink.
+//! What is rendered, and how it is written into any sink.
 ghost use Rattle.std.specs.Prelude.{◌≡◌, ◌+◌, ◌≤◌};
 ghost use Rattle.rules.specs.Limits.{max_marker_size};
 ghost use Rattle.rules.specs.Pieces.{total};
@@ -22,6 +22,8 @@ use writing::desk::Desk;
 use writing::keep::Stretch;
 use writing::pen::Pen;
 
+// Stays: (d) current and other are no struct of their own: of all who read them `next_cluster` alone reads both lists at once, and the rules take them apart too.
+// Stays: (c) that it is `Writable` is no ghost field: "antt found no proof that this ghost field's type is a proposition".
 /// What is rendered: three sheets and the hunks of both sides, in a mode and with labels.
 #[derive(Drop)]
 pub struct Rendering<'a, T> {
@@ -81,6 +83,7 @@ impl<'a, T: ThreeSheets> Rendering<'a, T> {
             current: self.current,
             other: self.other,
         };
+        // Stays: (d) a flag, since every turn is written: `any` would end at the first that is marked.
         let mut marked = false;
         while let Some(turn) = walk.turn() {
             let ahead = Span {

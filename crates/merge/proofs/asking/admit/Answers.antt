@@ -7,9 +7,9 @@ use Rattle.merge.proofs.asking.admit.Goals as goal
 pub returns-clause-answer : goal.returns-clause-answer
 returns-clause-answer g c =
     let q = (answered_yes _ tt _ (sym c.in_ok-ask.ensures)).0 in
-    let a = admitted c.args.table.now (g.T.ThreeSheets.sheets c.args.three.now) c.args.mode (labels_in c.args.labels) c.current-ours.ensures.keeps q in
-    let ours = c.current-ours.ensures.hunks in
-    let theirs = c.other-theirs.ensures.hunks in
+    let a = admitted c.args.table.now (g.T.ThreeSheets.sheets c.args.three.now) c.args.mode (labels_in c.args.labels) c.current-current.ensures.keeps q in
+    let ours = c.current-current.ensures.hunks in
+    let theirs = c.other-other.ensures.hunks in
     record {
       accepted = q;
       sheets = refl;
