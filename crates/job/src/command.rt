@@ -10,6 +10,7 @@ pub enum SheetKind {
 }
 
 /// The first word of a command. Some stand alone, others go on, and one does either.
+// Stays: (d) the words alone, which have names; a command has what goes on behind them too.
 #[derive(Clone, Copy, PartialEq, Eq, Debug)]
 pub enum Verb {
     Lines,
@@ -34,6 +35,7 @@ pub struct LineCounts {
 #[derive(Clone, Copy)]
 pub enum Command<'a> {
     /// A blank line or a comment.
+    // Stays: (d) the definitions have it as an order, which is spelled and read back like the others; of an Option in an Option no reader knows which None it is.
     Nothing,
     /// Take a side's sheet in from a file.
     Sheet {
@@ -51,6 +53,7 @@ pub enum Command<'a> {
     /// Open the table by the three sheets' counts of lines.
     Open,
     /// Open the table by counts that are given.
+    // Stays: (d) two orders in the definitions: an Open of no counts would not say that it asks the sheets.
     OpenBy(LineCounts),
     /// Enter a hunk into the table.
     Enter(Hunk),

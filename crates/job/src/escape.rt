@@ -1,5 +1,6 @@
-ghost use Rattle.std.specs.Prelude.{◌≡◌, ℕ, ◌+◌, ◌/◌, ◌%◌, ◌<◌, ◌≤◌, List, [], ◌∷◌, ◌++◌, OnOk};
+ghost use Rattle.std.specs.Prelude.{◌≡◌, ℕ, ◌+◌, ◌/◌, ◌%◌, ◌<◌, ◌≤◌, List, [], ◌∷◌, ◌++◌};
 ghost use Rattle.job.specs.Escapes.{hex_digit, shown, shown_byte};
+ghost use Rattle.job.specs.Reports.{Adds};
 
 use crate::spell::Spell;
 use std::alloc::AllocError;
@@ -20,8 +21,9 @@ impl Spell for Shown<'_> {
     }
 }
 
+// Stays: (a) what is printed is fixed: `escape_ascii` escapes quotes too.
 fn show_byte(report: &mut Vec<u8>, b: u8) -> Result<(), AllocError>
-    ensures { OnOk result (report.new.items ≡ report.old.items ++ shown_byte b) }
+    ensures { Adds result report.old.items report.new.items (shown_byte b) }
 {
     match b {
         b'\n' => report.extend_from_slice(b"\\n"),
@@ -33,6 +35,7 @@ fn show_byte(report: &mut Vec<u8>, b: u8) -> Result<(), AllocError>
     }
 }
 
+// Stays: (d) `char::from_digit` answers an Option of a char, to be unwrapped and made a byte.
 fn hex_digit(d: u8) -> u8
     requires { d < 16 }
     ensures { result ≡ hex_digit d }

@@ -12,6 +12,7 @@ pub struct Lines<'a> {
 }
 
 impl<'a> Lines<'a> {
+    /// All lines of a job, from its first.
     pub fn of(job: &'a [u8]) -> Lines<'a>
         ensures { lines_left result ≡ text_lines job.now }
     {
@@ -57,6 +58,7 @@ pub(crate) fn find_from(byte: u8, bytes: &[u8], from: usize) -> Option<usize>
 }
 
 /// A line without its ending.
+// Stays: (a) slice patterns on the borrowed line decide its ending, in every crate.
 pub fn bare_line(line: &[u8]) -> &[u8]
     ensures { result.now ≡ bare line.now }
 {

@@ -6,6 +6,7 @@ use crate::command::{SheetKind, Verb};
 use rules::hunk::Side;
 
 /// Things that have a name each, of which no two are the same.
+// Stays: (d) reading and spelling share one table, and the law `back` ties them; `FromStr` and `Display` apart would not owe that they fit.
 pub trait Named: Copy + 'static {
     ghost use Rattle.std.specs.Prelude.{List, ℕ, Some};
 

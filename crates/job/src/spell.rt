@@ -1,6 +1,7 @@
 //! Commands and what they are made of, as a job writes them.
-ghost use Rattle.std.specs.Prelude.{◌≡◌, ◌++◌, codes, decimal, OnOk};
+ghost use Rattle.std.specs.Prelude.{◌≡◌, ◌++◌, codes, decimal};
 ghost use Rattle.job.specs.Orders.{hunk_text, numbers_text, order, span_text, spelled as command_text};
+ghost use Rattle.job.specs.Reports.{Adds};
 ghost use Rattle.job.specs.Words.{kind_word, side_word, verb_word};
 
 use crate::command::{Command, LineCounts, SheetKind, Verb};
@@ -9,7 +10,8 @@ use itoa::Buffer;
 use rules::hunk::{Hunk, Side, Span};
 use std::alloc::AllocError;
 
-/// What a report can take in. It is not `Display`, for a path need not be text.
+/// What a report can take in.
+// Stays: (d) `Display` writes text, and a path of a job need not be text.
 pub trait Spell {
     ghost use Rattle.std.specs.Prelude.{List, ℕ};
 
@@ -17,7 +19,7 @@ pub trait Spell {
 
     /// Adds it to a report.
     fn spell(&self, report: &mut Vec<u8>) -> Result<(), AllocError>
-        ensures { OnOk result (report.new.items ≡ report.old.items ++ spelled self.now) };
+        ensures { Adds result report.old.items report.new.items (spelled self.now) };
 }
 
 impl Spell for Command<'_> {
@@ -25,6 +27,7 @@ impl Spell for Command<'_> {
 
     fn spell(&self, report: &mut Vec<u8>) -> Result<(), AllocError> {
         match *self {
+            // A line that asks for nothing is spelled too: by no bytes.
             Command::Nothing => Ok(()),
             Command::Sheet { side, kind, path } => spell_sheet(report, side, kind, path),
             Command::Lines(side) => spell_sided(report, Verb::Lines, side),
@@ -46,7 +49,7 @@ fn spell_sheet(
     kind: SheetKind,
     path: &[u8],
 ) -> Result<(), AllocError>
-    ensures { OnOk result (report.new.items ≡ report.old.items ++ (codes "sheet " ++ (side_word side ++ (codes " " ++ (kind_word kind ++ (codes " " ++ path.now)))))) }
+    ensures { Adds result report.old.items report.new.items (codes "sheet " ++ (side_word side ++ (codes " " ++ (kind_word kind ++ (codes " " ++ path.now))))) }
 {
     spell_sided(report, Verb::Sheet, side)?;
     put(report, b" ")?;
@@ -57,7 +60,7 @@ fn spell_sheet(
 
 /// A command's first word and a side.
 fn spell_sided(report: &mut Vec<u8>, verb: Verb, side: Side) -> Result<(), AllocError>
-    ensures { OnOk result (report.new.items ≡ report.old.items ++ (verb_word verb ++ (codes " " ++ side_word side))) }
+    ensures { Adds result report.old.items report.new.items (verb_word verb ++ (codes " " ++ side_word side)) }
 {
     put_name(report, verb)?;
     put(report, b" ")?;
@@ -71,7 +74,7 @@ fn spell_behind<S: Spell>(
     side: Side,
     rest: &S,
 ) -> Result<(), AllocError>
-    ensures { OnOk result (report.new.items ≡ report.old.items ++ (verb_word verb ++ (codes " " ++ (side_word side ++ (codes " " ++ S.spelled rest.now))))) }
+    ensures { Adds result report.old.items report.new.items (verb_word verb ++ (codes " " ++ (side_word side ++ (codes " " ++ S.spelled rest.now)))) }
 {
     spell_sided(report, verb, side)?;
     put(report, b" ")?;
@@ -79,7 +82,7 @@ fn spell_behind<S: Spell>(
 }
 
 fn spell_open(report: &mut Vec<u8>, counts: LineCounts) -> Result<(), AllocError>
-    ensures { OnOk result (report.new.items ≡ report.old.items ++ (codes "open " ++ numbers_text counts.ancestor counts.current counts.other)) }
+    ensures { Adds result report.old.items report.new.items (codes "open " ++ numbers_text counts.ancestor counts.current counts.other) }
 {
     put_name(report, Verb::Open)?;
     put(report, b" ")?;
@@ -130,14 +133,14 @@ impl Spell for u32 {
 }
 
 fn put_name<N: Named>(report: &mut Vec<u8>, named: N) -> Result<(), AllocError>
-    ensures { OnOk result (report.new.items ≡ report.old.items ++ N.name named) }
+    ensures { Adds result report.old.items report.new.items (N.name named) }
 {
     put(report, named.name().as_bytes())
 }
 
 /// Adds bytes to a report as they are.
 pub fn put(report: &mut Vec<u8>, bytes: &[u8]) -> Result<(), AllocError>
-    ensures { OnOk result (report.new.items ≡ report.old.items ++ bytes.now) }
+    ensures { Adds result report.old.items report.new.items bytes.now }
 {
     report.extend_from_slice(bytes)
 }

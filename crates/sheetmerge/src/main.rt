@@ -1,4 +1,4 @@
-//! Joins the sheets of a rope section: reads a job from standard input, one command a line, and prints what was done.
+//! Takes in the sheets of a rope section and the hunks on them: reads a job from standard input, one command a line, and prints what was done.
 #![tactic(auto)]
 
 mod file_sheet;
@@ -9,6 +9,7 @@ mod table;
 mod words;
 mod work;
 
+use crate::words::Summed;
 use crate::work::Unit;
 use job::lines::{Lines, bare_line};
 use std::io;
@@ -21,9 +22,5 @@ fn main(rt: HostRuntime) -> io::Result<()> {
     for line in Lines::of(&job) {
         unit.do_line(&rt, bare_line(line))?;
     }
-    let sum = unit.summary();
-    println!(rt;
-        "commands {}: done {}, refused {}, failed {}, not understood {}",
-        sum.commands, sum.done, sum.refused, sum.failed, sum.not_understood
-    )
+    println!(rt; "{}", Summed(unit.summary()))
 }

@@ -10,17 +10,19 @@ use std::io::Write;
 
 /// Prints a command as it was read, and a colon.
 pub fn echo(rt: &HostRuntime, command: Command<'_>) -> io::Result<()> {
-    let mut report = Vec::new(rt.alloc());
-    command.spell(&mut report)?;
-    put(&mut report, b": ")?;
-    rt.stdout().write_all(&report)
+    say(rt, &command, b": ")
 }
 
 /// Prints bytes so that a terminal can show them, and ends the line.
 pub fn show_line(rt: &HostRuntime, bytes: &[u8]) -> io::Result<()> {
+    say(rt, &Shown(bytes), b"\n")
+}
+
+/// Prints what spells itself, and what ends it.
+pub fn say<S: Spell>(rt: &HostRuntime, what: &S, end: &[u8]) -> io::Result<()> {
     let mut report = Vec::new(rt.alloc());
-    Shown(bytes).spell(&mut report)?;
-    put(&mut report, b"\n")?;
+    what.spell(&mut report)?;
+    put(&mut report, end)?;
     rt.stdout().write_all(&report)
 }
 

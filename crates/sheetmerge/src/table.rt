@@ -1,4 +1,5 @@
 //! The hunks that a table holds, listed.
+use crate::report::say;
 use hunks::table::HunkTable;
 use job::names::Named;
 use job::outcome::Outcome;
@@ -20,10 +21,8 @@ pub fn list_held(rt: &HostRuntime, table: &HunkTable) -> io::Result<Outcome> {
 fn list_side(rt: &HostRuntime, side: Side, hunks: &[Hunk]) -> io::Result<()> {
     let side = side.name();
     for hunk in hunks {
-        println!(rt;
-            "  {side} {}..{}/{}..{}",
-            hunk.before.start, hunk.before.end, hunk.after.start, hunk.after.end
-        )?;
+        print!(rt; "  {side} ")?;
+        say(rt, hunk, b"\n")?;
     }
     Ok(())
 }

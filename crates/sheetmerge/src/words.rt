@@ -1,5 +1,6 @@
-//! What the program says of sheets, counts and lines.
+//! What the program says of sheets, counts, lines and a job.
 use job::command::LineCounts;
+use job::outcome::Summary;
 use sheet::sheet::Sheet;
 use sheet::total::bytes_in;
 use std::fmt;
@@ -48,6 +49,26 @@ pub struct Held(pub usize);
 impl fmt::Display for Held {
     fn fmt<W: fmt::Write>(&self, f: &mut fmt::Formatter<W>) -> fmt::Result {
         write!(f, "{} held of the side", self.0)
+    }
+}
+
+/// A job's commands, counted by what came of them.
+#[derive(Clone, Copy)]
+pub struct Summed(pub Summary);
+
+impl fmt::Display for Summed {
+    fn fmt<W: fmt::Write>(&self, f: &mut fmt::Formatter<W>) -> fmt::Result {
+        let Summary {
+            commands,
+            done,
+            refused,
+            failed,
+            not_understood,
+        } = self.0;
+        write!(
+            f,
+            "commands {commands}: done {done}, refused {refused}, failed {failed}, not understood {not_understood}"
+        )
     }
 }
 

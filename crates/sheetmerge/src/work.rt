@@ -71,8 +71,9 @@ impl Unit {
 }
 
 fn open(table: &mut HunkTable, counts: LineCounts) -> Result<Opened, TableRefusal> {
-    table.open(counts.ancestor, counts.current, counts.other)?;
-    Ok(Opened(counts))
+    table
+        .open(counts.ancestor, counts.current, counts.other)
+        .map(|()| Opened(counts))
 }
 
 const HELP: &str = "\

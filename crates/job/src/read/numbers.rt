@@ -10,7 +10,7 @@ pub(super) fn number_then<'a>(mark: &[u8], line: &'a [u8]) -> Option<(u32, &'a [
     ensures { option_map told result ≡ number_then mark.now line.now }
 {
     let (n, behind) = front_number(line)?;
-    Some((n, behind.strip_prefix(mark)?))
+    behind.strip_prefix(mark).map(|rest| (n, rest))
 }
 
 /// The number that a whole line is.
@@ -18,7 +18,7 @@ pub(super) fn last_number(line: &[u8]) -> Option<u32>
     ensures { result ≡ last_number line.now }
 {
     let (n, behind) = front_number(line)?;
-    if behind.is_empty() { Some(n) } else { None }
+    behind.is_empty().then_some(n)
 }
 
 /// The number at the front of a line, and what follows it.
@@ -27,8 +27,7 @@ fn front_number(line: &[u8]) -> Option<(u32, &[u8])>
     ensures { option_map told result ≡ front_number line.now }
 {
     let (digits, rest) = line.split_at(digit_count(line));
-    let n = number_of(digits)?;
-    Some((n, rest))
+    number_of(digits).map(|n| (n, rest))
 }
 
 /// How many digits stand at the front of a line.

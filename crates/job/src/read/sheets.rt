@@ -12,15 +12,15 @@ use rules::hunk::Side;
 pub(super) fn read_lines(line: &[u8]) -> Option<Command<'_>>
     ensures { option_map order result ≡ read_lines line.now }
 {
-    Some(Command::Lines(from_name(line)?))
+    // Stays: (c) the borrow checker does not cover `map` with `Command::Lines` itself, so a closure.
+    from_name(line).map(|side| Command::Lines(side))
 }
 
 pub(super) fn read_row(line: &[u8]) -> Option<Command<'_>>
     ensures { option_map order result ≡ read_row line.now }
 {
     let (side, rest) = front_named(line)?;
-    let row = last_number(rest)?;
-    Some(Command::Row { side, row })
+    last_number(rest).map(|row| Command::Row { side, row })
 }
 
 pub(super) fn read_sheet(line: &[u8]) -> Option<Command<'_>>
@@ -41,8 +41,5 @@ fn read_kind(side: Side, line: &[u8]) -> Option<Command<'_>>
 fn read_path(side: Side, kind: SheetKind, path: &[u8]) -> Option<Command<'_>>
     ensures { option_map order result ≡ sheet_order side kind path.now }
 {
-    match path {
-        [] => None,
-        _ => Some(Command::Sheet { side, kind, path }),
-    }
+    (!path.is_empty()).then_some(Command::Sheet { side, kind, path })
 }

@@ -50,5 +50,6 @@ fn read_hunk(side: Side, line: &[u8]) -> Option<Command<'_>>
 pub(super) fn read_withdraw(line: &[u8]) -> Option<Command<'_>>
     ensures { option_map order result ≡ read_withdraw line.now }
 {
-    Some(Command::Withdraw(from_name(line)?))
+    // Stays: (c) the borrow checker does not cover `map` with `Command::Withdraw` itself, so a closure.
+    from_name(line).map(|side| Command::Withdraw(side))
 }

@@ -11,10 +11,11 @@ pub(super) fn front_named<N: Named>(line: &[u8]) -> Option<(N, &[u8])>
     ensures { option_map told result ≡ front_named N.name N.all line.now }
 {
     let (word, rest) = front_word(line)?;
-    Some((from_name(word)?, rest))
+    from_name(word).map(|named| (named, rest))
 }
 
 /// The first word of a line, as far as its first space, and what follows the space.
+// Stays: (c) by `map` over the place, `search` does not prove the answer, for the closure has no fact that the place is in the line.
 #[tactic(auto, using(crate::proofs::Words::cut_by_space))]
 fn front_word(line: &[u8]) -> Option<(&[u8], &[u8])>
     ensures { option_map both_told result ≡ front_word line.now }
