@@ -1,16 +1,8 @@
 //! A side holds 256 hunks.
-use crate::make::hunk;
+use crate::make::{enter_many, hunk};
 use hunks::table::HunkTable;
 use rules::hunk::Side;
 use rules::refusal::TableRefusal;
-
-// Enters n hunks of one deleted line each, with a line between neighbours, and tells the last count that was answered.
-fn enter_many(t: &mut HunkTable, side: Side, n: u16) -> Option<usize> {
-    (0..n)
-        .map(|i| 2 * u32::from(i))
-        .filter_map(|start| t.enter(hunk(side, start, start + 1, 0, 0)).ok())
-        .last()
-}
 
 #[test]
 fn a_side_takes_256(rt: HostRuntime) {

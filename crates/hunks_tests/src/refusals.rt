@@ -1,5 +1,5 @@
 //! Every refusal with its number, layer and place, and that it leaves the table as it was.
-use crate::make::hunk;
+use crate::make::{enter_many, hunk};
 use hunks::table::HunkTable;
 use rules::hunk::{Hunk, Side};
 use rules::refusal::{Layer, Refusal, TableRefusal};
@@ -34,6 +34,7 @@ fn tells<T: Drop>(rt: &impl Abort, answer: Result<T, TableRefusal>, n: u32, p: u
     assert_eq!(rt; told, Some((n, Layer::Table, p)));
 }
 
+// Stays: refused_open and refused make different calls, and have one line of it each.
 fn refused_open(rt: &impl Abort, ancestor: u32, current: u32, other: u32, p: u32) {
     let mut t = table();
     tells(rt, t.open(ancestor, current, other), 7, p);
@@ -98,9 +99,7 @@ fn nine_and_thirteen(rt: HostRuntime) {
     let mut t = HunkTable::new();
     tells(&rt, t.withdraw(Side::Current), 13, 0);
     assert!(rt; t.open(4096, 1, 1).is_ok());
-    for i in 0u32..256 {
-        assert!(rt; t.enter(hunk(Side::Current, 2 * i, 2 * i + 1, 0, 0)).is_ok());
-    }
+    assert_eq!(rt; enter_many(&mut t, Side::Current, 256), Some(256));
     tells(&rt, t.enter(hunk(Side::Current, 512, 513, 0, 1)), 9, 0);
     tells(&rt, t.enter(hunk(Side::Current, 9, 1, 0, 1)), 9, 0);
     tells(&rt, t.withdraw(Side::Other), 13, 0);

@@ -25,19 +25,20 @@ pub fn shows_none<S: Sheet>(sheet: &S) -> bool {
 }
 
 /// Whether the text with this table shows this line at `n`.
-pub fn text_shows<'x>(text: &'x [u8], starts: &'x [u32], n: u32, want: &[u8]) -> bool {
+// Stays: text_shows, _refused and _kept beside those of cells: a text is opened with its table, and cells without one.
+pub fn text_shows(text: &[u8], starts: &[u32], n: u32, want: &[u8]) -> bool {
     TextSheet::new(text, starts).is_ok_and(|sheet| shows(&sheet, n, want))
 }
 
 /// The number of the refusal that a text meets with this table.
-pub fn text_refused<'x>(text: &'x [u8], starts: &'x [u32]) -> Option<u32> {
-    let refusal = TextSheet::new(text, starts).err()?;
-    Some(refusal.number())
+pub fn text_refused(text: &[u8], starts: &[u32]) -> Option<u32> {
+    TextSheet::new(text, starts)
+        .err()
+        .map(|refusal| refusal.number())
 }
 
 /// Whether a sheet of "a\n" and "b" still shows them when another text was refused.
-// Stays: text_kept and cells_kept: a text is opened with its table, and cells without one.
-pub fn text_kept<'x>(text: &'x [u8], starts: &'x [u32]) -> bool {
+pub fn text_kept(text: &[u8], starts: &[u32]) -> bool {
     let mut sheet = TextSheet::empty();
     sheet.open(b"a\nb", &[0, 2]).is_ok()
         && sheet.open(text, starts).is_err()
@@ -45,23 +46,24 @@ pub fn text_kept<'x>(text: &'x [u8], starts: &'x [u32]) -> bool {
 }
 
 /// Whether the memory's cells show this line at `n`.
-pub fn cells_show<'x>(memory: &'x [u8], n: u32, want: &[u8]) -> bool {
+pub fn cells_show(memory: &[u8], n: u32, want: &[u8]) -> bool {
     CellSheet::new(memory).is_ok_and(|sheet| shows(&sheet, n, want))
 }
 
 /// What refuses the memory's cells: number and place.
-pub fn cells_refused<'x>(memory: &'x [u8]) -> Option<(u32, u32)> {
-    let refusal = CellSheet::new(memory).err()?;
-    Some((refusal.number(), refusal.place()))
+pub fn cells_refused(memory: &[u8]) -> Option<(u32, u32)> {
+    CellSheet::new(memory)
+        .err()
+        .map(|refusal| (refusal.number(), refusal.place()))
 }
 
 /// How many lines the memory's cells hold.
-pub fn cells_shown<'x>(memory: &'x [u8]) -> Result<u32, SheetRefusal> {
-    Ok(CellSheet::new(memory)?.count())
+pub fn cells_shown(memory: &[u8]) -> Result<u32, SheetRefusal> {
+    CellSheet::new(memory).map(|sheet| sheet.count())
 }
 
 /// Whether a sheet of this memory still shows "a\n" and "b" when another memory was refused.
-pub fn cells_kept<'x>(memory: &'x [u8], bad: &'x [u8]) -> bool {
+pub fn cells_kept(memory: &[u8], bad: &[u8]) -> bool {
     let mut sheet = CellSheet::empty();
     sheet.open(memory).is_ok() && sheet.open(bad).is_err() && shows_two(&sheet, b"a\n", b"b")
 }

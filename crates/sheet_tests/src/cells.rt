@@ -13,10 +13,7 @@ fn cell(len: u8, a: u8, b: u8) -> [u8; 48] {
 
 /// As many cells of the first form, then one of the second.
 fn cells(heap: Global, count: usize, first: &[u8], last: &[u8]) -> Result<Vec<u8>, AllocError> {
-    let mut memory = Vec::new(heap);
-    for _ in 0..count {
-        memory.extend_from_slice(first)?;
-    }
+    let mut memory = first.repeat(heap, count)?;
     memory.extend_from_slice(last)?;
     Ok(memory)
 }

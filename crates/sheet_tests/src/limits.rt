@@ -8,10 +8,10 @@ use std::test::Fail;
 fn refused(heap: Global, byte: u8, bytes: usize, places: usize) -> Result<Option<u32>, AllocError> {
     let text = vec![in heap; byte; bytes]?;
     let mut table = vec![in heap; 9u32; places]?;
-    Ok(match split(&text, &mut table) {
-        Ok(_) => text_refused(&text, &table),
-        Err(refusal) => Some(refusal.number()),
-    })
+    let number = split(&text, &mut table)
+        .err()
+        .map(|refusal| refusal.number());
+    Ok(number.or_else(|| text_refused(&text, &table)))
 }
 
 /// Whether line n of as many newlines starts at byte n, and the place behind the last keeps what it had.

@@ -79,8 +79,8 @@ impl HeldSide {
         Ok(self.hunks.len())
     }
 
-    #[tactic(auto, using(crate::proofs::Helds::none_held))]
     /// Takes the last hunk out, and answers the new count.
+    #[tactic(auto, using(crate::proofs::Helds::none_held))]
     pub(super) fn withdraw(&mut self) -> Result<usize, TableRefusal>
         ensures answer { result ≡ answered (withdraw_question self.old.hunks) (length self.old.hunks - 1) }
         ensures after { self.new ≡ record { lines = self.old.lines; hunks = changed (withdraw_question self.old.hunks) (without_last self.old.hunks) self.old.hunks } }
