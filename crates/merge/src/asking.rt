@@ -20,7 +20,7 @@ use rules::mode::Conflict;
 use rules::refusal::RenderRefusal;
 
 // One question: yes, or its refusal.
-fn asked(fits: bool, refusal: RenderRefusal) -> Result<(), RenderRefusal>
+fn ask_whether(fits: bool, refusal: RenderRefusal) -> Result<(), RenderRefusal>
     ensures { result ≡ answered (ask fits refusal None) tt }
 {
     if fits { Ok(()) } else { Err(refusal) }
@@ -30,7 +30,7 @@ fn asked(fits: bool, refusal: RenderRefusal) -> Result<(), RenderRefusal>
 fn ask_count<T: ThreeSheets>(three: &T, table: &HunkTable, side: Side) -> Result<(), RenderRefusal>
     ensures { result ≡ answered (ask (length (sheet_of (T.sheets three.now) side) == count_of table.now side) (CountsDiffer side) None) tt }
 {
-    asked(
+    ask_whether(
         three.count_of(side) == table.lines(side),
         RenderRefusal::CountsDiffer(side),
     )
@@ -41,7 +41,7 @@ fn ask_marker_size(mode: Conflict) -> Result<(), RenderRefusal>
     ensures { result ≡ answered (ask (size_fits mode) MarkerSize None) tt }
 {
     match mode {
-        Conflict::Keep { marker_size, .. } => asked(
+        Conflict::Keep { marker_size, .. } => ask_whether(
             (1..=MAX_MARKER_SIZE).contains(&marker_size),
             RenderRefusal::MarkerSize,
         ),
@@ -52,7 +52,7 @@ fn ask_marker_size(mode: Conflict) -> Result<(), RenderRefusal>
 fn ask_label(label: Option<&[u8]>, side: Side) -> Result<(), RenderRefusal>
     ensures { result ≡ answered (ask (label_fits (option_map (λ x. x.now) label.entry)) (LabelTooLong side) None) tt }
 {
-    asked(
+    ask_whether(
         label.is_none_or(|bytes| bytes.len() <= MAX_LABEL),
         RenderRefusal::LabelTooLong(side),
     )

@@ -50,7 +50,7 @@ fn make_call<T: ThreeSheets, S: Sink>(
     }
 }
 
-// Stays: (c) by its index: with `if let Some(place) = answers.get_mut(n)` the check left the loop's goal open (`loop-n-preserved`).
+// Stays: (c) by its index: with `if let Some(place) = answers.get_mut(n)` the check left `returns-in-Some` open (it knows of the slice its length alone).
 // Notes an answer at place n, if there is one.
 fn note(answers: &mut [Answer], n: usize, answer: Answer)
     ensures { answers.new ≡ slice_set answers.old n answer }
