@@ -1,7 +1,6 @@
 -- Steps of the loops: what is left gives the answer.
-use Rattle.std.proofs.Common.{max, ◌≡◌, ℕ, suc, ◌+◌, ◌-◌, ◌<◌, ◌≤◌, Bool, true, false, cond, eqb, List, [], ◌∷◌, length, take, drop, Some, None, refl, ap, ◌∙◌, arith, length-drop}
+use Rattle.std.proofs.Common.{max, ◌≡◌, ℕ, suc, ◌+◌, ◌<◌, ◌≤◌, Bool, true, false, cond, eqb, List, [], ◌∷◌, length, take, drop, Some, None, refl, ap, arith, length-drop}
 use Rattle.std.proofs.lemmas.Bool.Decides.{nat_tests}
-use Rattle.std.proofs.lemmas.List.{drop-drop}
 use Rattle.std.specs.Prelude.{◌==◌, nat_lt, not, position}
 use Rattle.std.specs.List.{position_or_len}
 use Rattle.rules.specs.Texts.{onto, text_lines}
@@ -38,7 +37,7 @@ line_forward t from to e h =
     (omega arith, omega arith)
 
 -- the first of a text's lines is as long as the definition says, and the others are the lines of the rest
-first_line : (t : List ℕ) → 0 < length t → text_lines t ≡ take (line_length t) t ∷ text_lines (drop (line_length t) t)
+pub first_line : (t : List ℕ) → 0 < length t → text_lines t ≡ take (line_length t) t ∷ text_lines (drop (line_length t) t)
 first_line [] h = absurd (omega arith)
 first_line (b ∷ []) h = elim (b == 10) as (λ v. cond v ((b ∷ []) ∷ []) (onto b []) ≡ take (cond v 1 1) (b ∷ []) ∷ text_lines (drop (cond v 1 1) (b ∷ []))) [ true ↦ refl | false ↦ refl ]
 first_line (b ∷ (d ∷ ds)) h = by (b == 10) (first_line (d ∷ ds) (omega arith))
@@ -46,10 +45,3 @@ first_line (b ∷ (d ∷ ds)) h = by (b == 10) (first_line (d ∷ ds) (omega ari
     by : (v : Bool) → text_lines (d ∷ ds) ≡ take (line_length (d ∷ ds)) (d ∷ ds) ∷ text_lines (drop (line_length (d ∷ ds)) (d ∷ ds)) → cond v ((b ∷ []) ∷ text_lines (d ∷ ds)) (onto b (text_lines (d ∷ ds))) ≡ take (cond v 1 (suc (line_length (d ∷ ds)))) (b ∷ (d ∷ ds)) ∷ text_lines (drop (cond v 1 (suc (line_length (d ∷ ds)))) (b ∷ (d ∷ ds)))
     by true e = refl
     by false e = ap (onto b) e
-
-pub line_cut : (t : List ℕ) (from to : ℕ) → from < length t → to ≡ line_end t from → text_lines (drop from t) ≡ take (to - from) (drop from t) ∷ text_lines (drop to t)
-line_cut t from to h e =
-    let l = length-drop from t in
-    let n : line_length (drop from t) ≡ to - from = omega arith in
-    let d : drop (to - from) (drop from t) ≡ drop to t = drop-drop (to - from) from t ∙ ap (λ k. drop k t) (omega arith) in
-    first_line (drop from t) (omega arith) ∙ ap (λ m. take m (drop from t) ∷ text_lines (drop m (drop from t))) n ∙ ap (λ r. take (to - from) (drop from t) ∷ text_lines r) d

@@ -5,10 +5,10 @@ ghost use Rattle.job.specs.Ends.{bare, line_end};
 ghost use Rattle.job.specs.Lines.{lines_left};
 
 /// The lines of a job, each with its ending.
+// Stays: (d) its `next_gives` is the promise that they are `text_lines`; std's `split_inclusive` speaks of each piece alone, and `line_end` is public beside it.
 #[derive(Drop)]
 pub struct Lines<'a> {
-    job: &'a [u8],
-    from: usize,
+    rest: &'a [u8],
 }
 
 impl<'a> Lines<'a> {
@@ -16,7 +16,7 @@ impl<'a> Lines<'a> {
     pub fn of(job: &'a [u8]) -> Lines<'a>
         ensures { lines_left result ≡ text_lines job.now }
     {
-        Lines { job, from: 0 }
+        Lines { rest: job }
     }
 }
 
@@ -27,18 +27,19 @@ impl<'a> Iterator for Lines<'a> {
 
     ghost remaining = { item_count lines_left };
 
-    #[tactic(auto, using(crate::proofs::Folds::line_cut))]
+    #[tactic(auto, using(crate::proofs::Folds::first_line))]
     fn next(&mut self) -> Option<&'a [u8]> {
-        if self.from >= self.job.len() {
+        if self.rest.is_empty() {
             return None;
         }
-        let start = self.from;
-        self.from = line_end(self.job, start);
-        Some(&self.job[start..self.from])
+        let (line, rest) = self.rest.split_at(line_end(self.rest, 0));
+        self.rest = rest;
+        Some(line)
     }
 }
 
 /// Where the line that begins at a place of a job ends: behind its newline, or at the job's end.
+// Stays: (a) public, with a promise and an edit of its own; what sheets have for a text's first line is private there.
 #[tactic(auto, using(crate::proofs::Folds::ends_with_job, crate::proofs::Folds::line_forward))]
 pub fn line_end(job: &[u8], from: usize) -> usize
     ensures answer { result ≡ line_end job.now from }

@@ -5,6 +5,7 @@ use sheet::sheet::Sheet;
 use sheet::text::TextSheet;
 
 /// A sheet as its file is laid out.
+// Stays: (d) a sheet of either kind borrows the bytes that `Stored` owns, so it is an enum of its own.
 #[derive(Clone, Copy)]
 pub enum FileSheet<'a> {
     Text(TextSheet<'a>),

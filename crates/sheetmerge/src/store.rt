@@ -11,9 +11,11 @@ use sheet::text::TextSheet;
 use std::alloc::{AllocError, Global};
 
 /// A file's bytes as its kind of sheet has them.
+// Stays: (d) `SheetKind` is read before there are bytes, and `FileSheet` borrows from these; one enum over what it holds would make the kind one of two empty payloads.
 #[derive(Drop)]
 pub enum Stored {
     /// A text, and where its lines start.
+    // Stays: (d) `TextSheet::new` borrows the two side by side.
     Text { text: Vec<u8>, starts: Vec<u32> },
     Cells(Vec<u8>),
 }

@@ -73,6 +73,7 @@ impl fmt::Display for Summed {
 }
 
 /// How a line ends, in a column of its own.
+// Stays: (a) slice patterns on the borrowed line decide it; `ending_of` answers nothing of a newline alone.
 pub fn ending_word(line: &[u8]) -> &'static str {
     match line {
         [.., b'\r', b'\n'] => "cr lf",

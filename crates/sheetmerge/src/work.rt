@@ -56,6 +56,7 @@ impl Unit {
         }
         let Unit { section, table, .. } = self;
         match command {
+            // Stays: (d) `do_line` has passed this one over; a match that names each command has an arm for it.
             Command::Nothing => Ok(Outcome::Done),
             Command::Help => help(rt),
             Command::Sheet { side, kind, path } => take_in(rt, section, side, kind, path),
@@ -70,6 +71,7 @@ impl Unit {
     }
 }
 
+// Stays: (a) the table's `open` is public and takes the counts one by one, in the order of its refusal's places.
 fn open(table: &mut HunkTable, counts: LineCounts) -> Result<Opened, TableRefusal> {
     table
         .open(counts.ancestor, counts.current, counts.other)
