@@ -17,6 +17,7 @@ pub struct Ahead<'a> {
 }
 
 // The first hunk of the walk, or nothing where neither side has one. At equal starts the current side leads.
+// Stays: the two lists travel side by side only as far as `Ahead`, which is the pair of them.
 fn first_hunk(current: &[Hunk], other: &[Hunk]) -> Option<Hunk>
     ensures { result ≡ slice_get (walk current.now other.now) 0 }
 {
@@ -32,6 +33,7 @@ impl<'a> Ahead<'a> {
         ensures first { option_map (λ ahead. ahead.first) result ≡ slice_get (walk current.now other.now) 0 }
         ensures sides { IfSome result (λ ahead. (ahead.current.now ≡ current.now) × (ahead.other.now ≡ other.now)) }
     {
+        // Stays: in a closure for `map`, what the ghost field tells of the first hunk is not proved (`invariant_of-result`).
         let first = first_hunk(current, other)?;
         Some(Ahead {
             current,

@@ -12,11 +12,11 @@ fn push_stretch(list: &mut HunkList<MAX_FILLED>, from: u32, to: u32)
     requires { length list.old < max_filled }
     ensures { list.new ≡ list.old ++ stretch from to }
 {
-    if from < to {
-        let lines = Span {
-            start: from,
-            end: to,
-        };
+    let lines = Span {
+        start: from,
+        end: to,
+    };
+    if !lines.is_empty() {
         let _ = list.push(Hunk {
             before: lines,
             after: lines,

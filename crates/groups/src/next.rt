@@ -28,8 +28,8 @@ pub struct NextCluster {
     pub lead: Side,
 }
 
-// Stays: `KeptHunks` is asked of three functions, since a ghost field of it is refused: it names some sheets, and is no proposition.
 // The cluster that the first hunk of the walk begins: a group if it touches a hunk of the facing side, and else a lone hunk.
+// Stays: `KeptHunks` is asked of three functions, since a ghost field of it is refused: it names some sheets, and is no proposition.
 fn cluster_of(ahead: Ahead<'_>) -> NextCluster
     requires { KeptHunks ahead.current.now ahead.other.now }
     ensures { Next ahead.entry.current.now ahead.entry.other.now result }

@@ -38,5 +38,6 @@ pub(crate) fn touches_any(hunk: Hunk, others: &[Hunk]) -> bool
 pub(crate) fn last_end(hunks: &[Hunk]) -> u32
     ensures { result ≡ last_end hunks.now }
 {
+    // Stays: no end is 0, as in the rules' definition.
     hunks.iter().map(|hunk| hunk.before.end).max().unwrap_or(0)
 }

@@ -9,6 +9,7 @@ use crate::refusal::SheetRefusal;
 use rules::limits::{MAX_BYTES, MAX_LINES};
 
 /// Fills the table with the line starts and answers their number; later places keep what they had.
+// Stays: text and table are two memories of the caller, and one thing only once they stand together, in a `TextSheet`.
 pub fn split(text: &[u8], starts: &mut [u32]) -> Result<u32, SheetRefusal>
     ensures answer { result ≡ split_answer text.now (length starts.old) }
     ensures table { starts.new ≡ table_after result text.now starts.old }

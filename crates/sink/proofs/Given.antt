@@ -69,9 +69,9 @@ fitting_all t a [] h = refl
 fitting_all t a (c ∷ cs) h =
     cond-true (leb (t + size c) a) _ _ (le-leb (t + size c) a (omega arith)) ∙ omega (arith, fitting_all (t + size c) a cs (omega arith))
 
-pub fitting_less : (t a : ℕ) (cs : List Chunk) → fitting t a cs < length cs → a < t + total cs
+pub fitting_less : (t a : ℕ) (cs : List Chunk) → (fitting t a cs ≡ length cs → ⊥) → a < t + total cs
 fitting_less t a cs h =
-    ⊎_elim (λ (l : a < t + total cs). l) (λ (l : t + total cs ≤ a). absurd (omega (arith, fitting_all t a cs l))) (cases_lt a (t + total cs))
+    ⊎_elim (λ (l : a < t + total cs). l) (λ (l : t + total cs ≤ a). absurd (h (fitting_all t a cs l))) (cases_lt a (t + total cs))
 
 -- Where all have room, all are taken.
 pub taken_whole : (t a n : ℕ) (cs : List Chunk) → n ≡ fitting t a cs → t + total cs ≤ a → take n cs ≡ cs

@@ -40,6 +40,7 @@ impl<'a> Piece<'a> {
         }
     }
 
+    /// What the piece is.
     pub fn kind(self) -> Kind
         ensures { kind_of result ≡ (chunk self.entry).kind }
     {
@@ -54,6 +55,7 @@ impl<'a> Piece<'a> {
         }
     }
 
+    /// The bytes that the piece borrows.
     pub fn bytes(self) -> &'a [u8]
         ensures { result.now ≡ (chunk self.entry).bytes }
     {

@@ -33,10 +33,8 @@ fn length_of(pieces: &[Piece<'_>]) -> Option<usize>
 {
     let mut tally = Tally::new();
     let _ = tally.begin(usize::MAX);
-    if take_all(&mut tally, pieces) < pieces.len() {
-        return None;
-    }
-    Some(tally.count())
+    let taken = take_all(&mut tally, pieces);
+    (taken == pieces.len()).then_some(tally.count())
 }
 
 /// Measures the pieces over a tally, announces their length and gives them all; or refuses and changes nothing.

@@ -18,6 +18,7 @@ pub struct Entry {
 }
 
 /// What stands in a place that no piece has taken yet.
+// Stays: a derive asks a default of `Kind`, and no kind of piece is one.
 impl Default for Entry {
     fn default() -> Entry {
         Entry {
@@ -28,6 +29,8 @@ impl Default for Entry {
 }
 
 impl Entry {
+    /// A copy of a piece that is short enough to be kept.
+    // Stays: a method and no `From`, which could not require that the piece is short enough.
     pub fn copy(p: Piece<'_>) -> Entry
         requires { size (chunk p) ≤ log_bytes }
         ensures { entry_chunk result ≡ chunk p.entry }
@@ -40,6 +43,8 @@ impl Entry {
         }
     }
 
+    /// The piece that is kept.
+    // Stays: a method as those of `Piece` are: it lends the entry's bytes, and converts nothing.
     pub fn piece(&self) -> Piece<'_>
         ensures { chunk result ≡ entry_chunk self.now }
     {

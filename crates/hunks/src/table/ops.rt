@@ -11,6 +11,7 @@ use rules::hunk::{Hunk, Side};
 use rules::limits::MAX_LINES;
 use rules::refusal::TableRefusal;
 
+// Stays: one function that asks for this and for the render's refusals would be public, and say no more than an `if`.
 fn count_fits(lines: u32, side: Side) -> Result<(), TableRefusal>
     ensures { result ≡ answered (ask (nat_le lines max_lines) (CountTooLarge side) None) tt }
 {
@@ -34,7 +35,8 @@ impl HunkTable {
     }
 
     /// Empties the table, whatever it held, and takes the line counts of the three sheets.
-    // Stays: three counts side by side, in the order that the rules and the refusal's places have.
+    // Stays: three counts and no struct of them: the project fixes `open` as a &mut self method by its three counts.
+    // Stays: `same` follows from the other two, but is promised to who reads no definitions; as in enter, withdraw and the list.
     pub fn open(&mut self, ancestor: u32, current: u32, other: u32) -> Result<(), TableRefusal>
         ensures answer { result ≡ open_answer ancestor current other }
         ensures after { self.new ≡ open_after self.old ancestor current other }
@@ -111,7 +113,7 @@ impl HunkTable {
     }
 
     /// The hunks held of the current side, in order.
-    // Stays: a call for each side: a side that is an argument could be the ancestor, of which there is no list.
+    // Stays: two calls, and both public: the rules' record of a table has two lists, and clauses name each of them.
     pub fn current(&self) -> &[Hunk]
         ensures hunks { result.now ≡ self.now.current }
         ensures keeps { TableKeeps self.now }

@@ -43,6 +43,7 @@ impl HeldSide {
         ensures { self.new ≡ record { lines = lines; hunks = [] } }
     {
         self.lines = lines;
+        // Stays: the working list's calls are fixed by the project, and a `clear` is not one of them.
         self.hunks.truncate(0);
     }
 

@@ -68,6 +68,7 @@ fn cell_stands(cell: &[u8; CELL_SIZE], last: bool) -> bool
 }
 
 /// Whether the bytes are a line, which may lack its newline only where it may be open.
+// Stays: the flag is the one that the rule `is_line` has.
 fn line_stands(line: &[u8], open: bool) -> bool
     ensures { result ≡ is_line «open» line.now }
 {

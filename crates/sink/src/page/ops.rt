@@ -16,6 +16,7 @@ impl<'a> Sink for Page<'a> {
 
     ghost rule = { more_bytes };
 
+    // Stays: a sink of its own says what its meter counts, since a trait's default sees no member.
     ghost taken = { λ s. s.meter.taken };
 
     ghost announced = { λ s. s.meter.announced };

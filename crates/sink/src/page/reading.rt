@@ -20,6 +20,7 @@ impl<'a> Page<'a> {
     }
 
     /// The bytes taken: those of the pieces, joined, whatever pieces made the page's value as a sink.
+    // Stays: `MadeOf` is the word that the sinks share here; what follows from it is another thing for each.
     pub fn bytes(&self) -> &[u8]
         ensures bytes { result.now ≡ page_value self.now }
         ensures joined { (cs : List Chunk) → MadeOf meaning self.now cs → result.now ≡ all_bytes cs }

@@ -9,8 +9,6 @@ use crate::row::Row;
 use crate::sink::Sink;
 use rules::limits::ROW_CAPACITY;
 
-const NEWLINE: u8 = b'\n';
-
 impl Row {
     // One more byte, which was counted as taken. Past the row's width it is not shown.
     fn show(&mut self, b: u8)
@@ -19,7 +17,7 @@ impl Row {
         ensures newlines { self.new.newlines ≤ self.old.newlines + 1 }
         ensures meter { self.new.meter ≡ self.old.meter }
     {
-        if b == NEWLINE {
+        if b == b'\n' {
             // Stays: the count goes on from one piece to the next.
             self.newlines += 1;
         } else if self.newlines == self.wanted {
@@ -37,6 +35,7 @@ impl Sink for Row {
 
     ghost rule = { row_rule };
 
+    // Stays: a sink of its own says what its meter counts, since a trait's default sees no member.
     ghost taken = { λ s. s.meter.taken };
 
     ghost announced = { λ s. s.meter.announced };

@@ -24,6 +24,7 @@ impl Row {
     }
 
     /// The row's first bytes: those of the pieces' bytes joined, whatever pieces made the row's value as a sink.
+    // Stays: `MadeOf` is the word that the sinks share here; what follows from it is another thing for each.
     pub fn shown(&self) -> &[u8]
         ensures bytes { result.now ≡ (row_value self.now).bytes }
         ensures row { (cs : List Chunk) → MadeOf meaning self.now cs → result.now ≡ shown_row self.now.wanted (all_bytes cs) }

@@ -16,7 +16,7 @@ impl Sink for Tally {
 
     ghost rule = { tally_rule };
 
-    // Stays: each kind gives these members of its own, since a trait's default sees no member.
+    // Stays: a sink of its own says what its meter counts, since a trait's default sees no member.
     ghost taken = { λ s. s.meter.taken };
 
     ghost announced = { λ s. s.meter.announced };

@@ -17,6 +17,7 @@ impl Tally {
     }
 
     /// How many bytes it took: the length of the pieces together, whatever pieces made the tally's value as a sink.
+    // Stays: `MadeOf` is the word that the sinks share here; what follows from it is another thing for each.
     pub fn count(&self) -> usize
         ensures count { result ≡ self.now.meter.taken }
         ensures total { (cs : List Chunk) → MadeOf meaning self.now cs → result ≡ total cs }

@@ -53,6 +53,7 @@ impl Sink for Log {
 
     ghost rule = { log_rule };
 
+    // Stays: a sink of its own says what its meter counts, since a trait's default sees no member.
     ghost taken = { λ s. s.meter.taken };
 
     ghost announced = { λ s. s.meter.announced };
