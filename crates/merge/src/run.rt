@@ -60,7 +60,7 @@ fn note(answers: &mut [Answer], n: usize, answer: Answer)
     }
 }
 
-// Stays: (a) a Result, though the sheets' counts are always accepted: `opened` and `answers` name what the opening answered, and callers are promised it.
+// Stays: (d) a Result, though the sheets' counts are always accepted: `opened` and `answers` name what the opening answered, and callers are promised it.
 /// Opens the table with the three sheets' counts of lines and makes the calls in order, each render into the sink.
 /// A call that is refused changes nothing, and the next is made.
 /// The answers are noted from the front of `answers`, as many as there are places. Answers what the opening did.

@@ -24,8 +24,7 @@ pub(crate) struct Turn<'a> {
     pub(crate) other: &'a [Hunk],
 }
 
-// Stays: (c) no `Iterator`: behind `for turn in &mut walk` a proof knows nothing of the walk, where the ancestor's last lines begin; the loop's invariant sees
-// the walk, but not its loan ("record `Walk` has no field `ghost_name`").
+// Stays: (c) no `Iterator`: behind `for turn in &mut walk` a proof knows nothing of the walk, where the ancestor's last lines begin; the loop's invariant sees the walk, but not its loan ("record `Walk` has no field `ghost_name`").
 impl<'a> Walk<'a> {
     /// Takes the next cluster off, if one is left.
     pub(crate) fn turn(&mut self) -> Option<Turn<'a>>

@@ -22,7 +22,7 @@ use writing::desk::Desk;
 use writing::keep::Stretch;
 use writing::pen::Pen;
 
-// Stays: (d) current and other are no struct of their own: of all who read them `next_cluster` alone reads both lists at once, and the rules take them apart too.
+// Stays: (d) current and other stay two slices: `Ahead`, `Walk` and `Turn` hold the pair for what each does, and would take a struct of the pair alone apart.
 // Stays: (c) that it is `Writable` is no ghost field: "antt found no proof that this ghost field's type is a proposition".
 /// What is rendered: three sheets and the hunks of both sides, in a mode and with labels.
 #[derive(Drop)]

@@ -47,8 +47,7 @@ impl Desk {
             theirs,
             removed,
         } = self;
-        // Stays: two calls, for of a pair that a match chooses the check says "a `&mut` inside an array, a struct or another reference would
-        // stand at another lifetime than the one that the value began with".
+        // Stays: two calls, for of a pair that a match chooses the check says "a `&mut` inside an array, a struct or another reference would stand at another lifetime than the one that the value began with".
         let (_, in_front, _) = match lead {
             Side::Current => zealously_contract_hunks(three, ours, theirs, removed),
             Side::Other | Side::Ancestor => zealously_contract_hunks(three, theirs, ours, removed),

@@ -17,8 +17,7 @@ use sink::sink::Sink;
 
 /// What writes into a sink: it remembers whether a line is open.
 #[derive(Drop)]
-// Stays: the sheets are handed to each call, for as a field of the pen each of the steps that follow one another would have to say again that they
-// are the same.
+// Stays: the sheets are handed to each call, for as a field of the pen each of the steps that follow one another would have to say again that they are the same.
 pub struct Pen<'a, S> {
     sink: &'a mut S,
     ajar: bool,
