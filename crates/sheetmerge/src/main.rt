@@ -10,7 +10,7 @@ mod words;
 mod work;
 
 use crate::words::Summed;
-use crate::work::Unit;
+use crate::work::Handheld;
 use job::lines::{Lines, bare_line};
 use std::io;
 use std::io::Read;
@@ -18,9 +18,9 @@ use std::io::Read;
 fn main(rt: HostRuntime) -> io::Result<()> {
     let mut job = Vec::new(rt.alloc());
     rt.stdin().read_to_end(&mut job)?;
-    let mut unit = Unit::new(rt.alloc());
+    let mut handheld = Handheld::new(rt.alloc());
     for line in Lines::of(&job) {
-        unit.do_line(&rt, bare_line(line))?;
+        handheld.do_line(&rt, bare_line(line))?;
     }
-    println!(rt; "{}", Summed(unit.summary()))
+    println!(rt; "{}", Summed(handheld.summary()))
 }

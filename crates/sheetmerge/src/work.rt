@@ -14,15 +14,15 @@ use std::io;
 
 /// A handheld unit as a job works on it, and what came of the job's commands so far.
 #[derive(Drop)]
-pub struct Unit {
+pub struct Handheld {
     section: Section,
     table: HunkTable,
     outcomes: Vec<Outcome>,
 }
 
-impl Unit {
-    pub fn new(heap: Global) -> Unit {
-        Unit {
+impl Handheld {
+    pub fn new(heap: Global) -> Handheld {
+        Handheld {
             section: Section::new(heap),
             table: HunkTable::new(),
             outcomes: Vec::new(heap),
@@ -54,7 +54,7 @@ impl Unit {
         if !matches!(command, Command::Nothing | Command::Help) {
             echo(rt, command)?;
         }
-        let Unit { section, table, .. } = self;
+        let Handheld { section, table, .. } = self;
         match command {
             // Stays: (d) `do_line` has passed this one over; a match that names each command has an arm for it.
             Command::Nothing => Ok(Outcome::Done),

@@ -15,7 +15,7 @@ pub(super) fn front_named<N: Named>(line: &[u8]) -> Option<(N, &[u8])>
 }
 
 /// The first word of a line, as far as its first space, and what follows the space.
-// Stays: (c) by `map` over the place, `search` does not prove the answer, for the closure has no fact that the place is in the line.
+// Stays: (c) by `map` over the place, `search` does not prove `returns`: the slices are then known only through the closure's own clause.
 #[tactic(auto, using(crate::proofs::Words::cut_by_space))]
 fn front_word(line: &[u8]) -> Option<(&[u8], &[u8])>
     ensures { option_map both_told result ≡ front_word line.now }
