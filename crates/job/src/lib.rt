@@ -8,3 +8,5 @@ pub mod names;
 pub mod outcome;
 pub mod read;
 pub mod spell;
+#[cfg(test)]
+mod tests;
