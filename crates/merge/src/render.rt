@@ -31,8 +31,7 @@ fn verdict_of(mode: Conflict, marked: bool) -> Resolution
     }
 }
 
-// Stays: (d) mode and labels are no struct of their own here: a unit has its labels for good and is asked for a mode, and `Rendering` holds both.
-// Nor do `size` and `render` take a `Unit`: a caller that keeps no labels asks without making one, and `Unit::render` is the method of one that does.
+// Stays: (d) mode and labels are no struct of their own here: a unit has its labels for good and is asked for a mode, and `Rendering` holds both; nor do `size` and `render` take a `Unit`: a caller that keeps no labels asks without making one, and `Unit::render` is the method of one that does.
 /// The length of the rendering that three sheets and the hunks held make in a mode, or the first refusal.
 pub fn size<T: ThreeSheets>(
     three: &T,
