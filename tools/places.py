@@ -22,6 +22,26 @@ SWAPS = [
 ]
 
 
+# What a line of a struct or an enum, and what any line, may have of an older form: the point, its kind, and how it looks.
+FIELD_SHAPES = [
+    (1, "a flag in a struct or an enum", r"^\s+(pub )?\w+: bool,$"),
+    (1, "a kind beside the values of each kind", r"^\s+(pub )?kind: \w+,$"),
+    (6, "an array with a length beside it", r"^\s+(pub )?\w+: \[\w+; \w+\],$"),
+    (6, "a list with another beside it", r"^\s+(pub )?starts: "),
+]
+LINE_SHAPES = [
+    (1, "a Some, None, Ok or Err taken apart and made again", r"(Some\(\w+\) => Some\(|None => None,|Err\(\w+\) => Err\(|Ok\(\(\)\) => Ok\(|Err\(.*=> Err\()"),
+    (1, "a Some, Ok or their lack turned into another value", r"(None => (&\[\]|Ending|false|true|\d)|Err\(_\) => (false|return false|\d|\())"),
+    (3, "while and loop", r"^\s*('\w+: )?(while|loop)\b"),
+    (3, "for over a range of numbers", r"\bfor \w+ in .*\.\."),
+    (3, "for with an index beside the items", r"\bfor .*\benumerate\(\)"),
+    (3, "a running count", r"^\s*[\w.]+ [+-]= 1;"),
+    (4, "a comparison written by hand", r"( as u8 == | as u8 != |\.start < \S+\.end|\.len\(\) > 0|\.len\(\) == 0|>= 1 && |<= \w+ && \w+ <= )"),
+    (4, "an impl written by hand that can be derived", r"^impl(<.*>)? (PartialEq|Eq|Clone|Copy|Ord|PartialOrd|Debug|Default) for"),
+    (7, "function pointers, tables of functions, dyn", r"(\bfn\(|\bdyn\b|: \[fn)"),
+]
+
+
 def code_of(path):
     """A source file's lines without comments and without `ghost use`."""
     out = []
@@ -134,35 +154,15 @@ def place(point, kind, where, what=""):
     places.setdefault((point, kind), []).append((where, what))
 
 
-def fields_with(point, kind, path, pattern):
-    for n, line in fields(path):
-        if re.search(pattern, line):
-            place(point, kind, f"{path}:{n}", line.strip())
-
-
-def lines_with(point, kind, path, pattern):
-    for n, line in enumerate(code_of(path), 1):
-        if re.search(pattern, line):
-            place(point, kind, f"{path}:{n}", line.strip())
-
-
 def look(paths):
     every = []
     for path in paths:
         every += functions(path)
-        fields_with(1, "a flag in a struct or an enum", path, r"^\s+(pub )?\w+: bool,$")
-        fields_with(1, "a kind beside the values of each kind", path, r"^\s+(pub )?kind: \w+,$")
-        lines_with(1, "a Some, None, Ok or Err taken apart and made again", path, r"(Some\(\w+\) => Some\(|None => None,|Err\(\w+\) => Err\(|Ok\(\(\)\) => Ok\(|Err\(.*=> Err\()")
-        lines_with(1, "a Some, Ok or their lack turned into another value", path, r"(None => (&\[\]|Ending|false|true|\d)|Err\(_\) => (false|return false|\d|\())")
-        lines_with(3, "while and loop", path, r"^\s*('\w+: )?(while|loop)\b")
-        lines_with(3, "for over a range of numbers", path, r"\bfor \w+ in .*\.\.")
-        lines_with(3, "for with an index beside the items", path, r"\bfor .*\benumerate\(\)")
-        lines_with(3, "a running count", path, r"^\s*[\w.]+ [+-]= 1;")
-        lines_with(4, "a comparison written by hand", path, r"( as u8 == | as u8 != |\.start < \S+\.end|\.len\(\) > 0|\.len\(\) == 0|>= 1 && |<= \w+ && \w+ <= )")
-        lines_with(4, "an impl written by hand that can be derived", path, r"^impl(<.*>)? (PartialEq|Eq|Clone|Copy|Ord|PartialOrd|Debug|Default) for")
-        fields_with(6, "an array with a length beside it", path, r"^\s+(pub )?\w+: \[\w+; \w+\],$")
-        fields_with(6, "a list with another beside it", path, r"^\s+(pub )?starts: ")
-        lines_with(7, "function pointers, tables of functions, dyn", path, r"(\bfn\(|\bdyn\b|: \[fn)")
+        for shapes, lines in ((FIELD_SHAPES, fields(path)), (LINE_SHAPES, enumerate(code_of(path), 1))):
+            for n, line in lines:
+                for point, kind, pattern in shapes:
+                    if re.search(pattern, line):
+                        place(point, kind, f"{path}:{n}", line.strip())
     for f in every:
         where, answer = f"{f.path}:{f.line}", result_of(f.head)
         test_helper = "_tests/" in f.path
