@@ -7,7 +7,6 @@ ghost use Rattle.std.specs.List.{slice_get};
 ghost use Rattle.std.specs.Borrow.{LendsIf, sem};
 
 use crate::list::{Full, HunkList};
-use arrayvec::ArrayVec;
 use rules::hunk::Hunk;
 
 impl<const N: usize> HunkList<N> {
@@ -16,22 +15,24 @@ impl<const N: usize> HunkList<N> {
         ensures { result ≡ [] }
     {
         HunkList {
-            items: ArrayVec::new(),
+            items: [Hunk::default(); N],
+            len: 0,
         }
     }
 
     /// How many hunks are held.
     pub fn len(&self) -> usize
-        ensures { result ≡ length self.now }
+        ensures value { result ≡ length self.now }
+        ensures fits { result ≤ N }
     {
-        self.items.len()
+        self.as_slice().len()
     }
 
     /// Hunk i, or nothing past the last.
     pub fn get(&self, i: usize) -> Option<Hunk>
         ensures { result ≡ slice_get self.now i }
     {
-        self.items.get(i).copied()
+        self.as_slice().get(i).copied()
     }
 
     /// The last hunk, or nothing of an empty list.
@@ -39,7 +40,7 @@ impl<const N: usize> HunkList<N> {
     pub fn last(&self) -> Option<Hunk>
         ensures { result ≡ last_of self.now }
     {
-        self.items.last().copied()
+        self.as_slice().last().copied()
     }
 
     /// The hunks held, in order.
@@ -47,7 +48,7 @@ impl<const N: usize> HunkList<N> {
         ensures value { result.now ≡ self.now }
         ensures fits { length result.now ≤ N }
     {
-        self.items.as_slice()
+        &self.items[..self.len]
     }
 
     /// Puts a hunk behind the last one, if there is a place for it.
@@ -56,7 +57,12 @@ impl<const N: usize> HunkList<N> {
         ensures after { self.new ≡ pushed N self.old hunk }
         ensures same { is_err result ≡ true → self.new ≡ self.old }
     {
-        self.items.try_push(hunk).map_err(|_| Full)
+        if self.len == N {
+            return Err(Full);
+        }
+        self.items[self.len] = hunk;
+        self.len += 1;
+        Ok(())
     }
 
     /// Takes the last hunk out, or nothing of an empty list.
@@ -65,14 +71,16 @@ impl<const N: usize> HunkList<N> {
         ensures answer { result ≡ last_of self.old }
         ensures after { self.new ≡ without_last self.old }
     {
-        self.items.pop()
+        let last = self.last();
+        self.len = self.len.saturating_sub(1);
+        last
     }
 
     /// The first n hunks stay, or all where there are fewer.
     pub fn truncate(&mut self, n: usize)
         ensures { self.new ≡ take n self.old }
     {
-        self.items.truncate(n);
+        self.len = self.len().min(n);
     }
 
     /// Puts all the hunks behind the last one, if there is a place for each; otherwise puts none.
@@ -81,15 +89,24 @@ impl<const N: usize> HunkList<N> {
         ensures after { self.new ≡ pushed_all N self.old hunks.now }
         ensures same { is_err result ≡ true → self.new ≡ self.old }
     {
-        self.items.try_extend_from_slice(hunks).map_err(|_| Full)
+        if hunks.len() > N - self.len {
+            return Err(Full);
+        }
+        let end = self.len + hunks.len();
+        let places = &mut self.items[..];
+        places[self.len..end].copy_from_slice(hunks);
+        self.len = end;
+        Ok(())
     }
 
     /// The first n hunks leave, or all where there are fewer, and the others move up.
     pub fn remove_front(&mut self, n: usize)
         ensures { self.new ≡ drop n self.old }
     {
-        let gone = n.min(self.len());
-        self.items.drain(..gone);
+        let gone = n.min(self.len);
+        let places = &mut self.items[..];
+        places.copy_within(gone..self.len, 0);
+        self.len -= gone;
     }
 
     /// Lends hunk i, or nothing past the last; the others stay.
@@ -97,6 +114,10 @@ impl<const N: usize> HunkList<N> {
         ensures* writes_back { sem 𝓛 (LendsIf (list_row N.row) hunk_row self.entry result (λ w. slice_set self.old i w) self.old) }
         ensures lent { pointed result ≡ slice_get self.old i }
     {
-        self.items.get_mut(i)
+        if i < self.len {
+            Some(&mut self.items[i])
+        } else {
+            None
+        }
     }
 }

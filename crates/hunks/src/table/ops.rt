@@ -81,32 +81,38 @@ impl HunkTable {
 
     // The side, or nothing; no hunks are held of the ancestor.
     fn side(&self, side: Side) -> Option<&HeldSide>
-        ensures { IsSide self.now side result }
+        ensures answer { IsSide self.now side result }
+        ensures keeps { TableKeeps self.now }
     {
+        // Both are read whatever the side, for what every table keeps is told where one is read.
+        let HunkTable { current, other, .. } = self;
         match side {
-            Side::Current => Some(&self.current),
-            Side::Other => Some(&self.other),
+            Side::Current => Some(current),
+            Side::Other => Some(other),
             Side::Ancestor => None,
         }
     }
 
     /// Hunk n of a side, or nothing; none is held of the ancestor.
     pub fn held(&self, side: Side, n: usize) -> Option<Hunk>
-        ensures { result ≡ held_at self.now side n }
+        ensures answer { result ≡ held_at self.now side n }
+        ensures keeps { TableKeeps self.now }
     {
         self.side(side)?.hunks.get(n)
     }
 
     /// How many hunks are held of a side.
     pub fn count(&self, side: Side) -> usize
-        ensures { result ≡ length (held_of self.now side) }
+        ensures answer { result ≡ length (held_of self.now side) }
+        ensures keeps { TableKeeps self.now }
     {
         self.side(side).map_or(0, |held| held.hunks.len())
     }
 
     /// The count of a sheet's lines that the table was opened with.
     pub fn lines(&self, side: Side) -> u32
-        ensures { result ≡ count_of self.now side }
+        ensures answer { result ≡ count_of self.now side }
+        ensures keeps { TableKeeps self.now }
     {
         self.side(side)
             .map_or(self.ancestor_lines, |held| held.lines)
