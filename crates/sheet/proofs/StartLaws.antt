@@ -1,7 +1,9 @@
-use Rattle.std.proofs.Common.{◌≡◌, ℕ, zero, suc, ◌+◌, ◌<◌, ◌≤◌, Bool, true, false, not, cond, ◌&&◌, eqb, ltb, List, [], ◌∷◌, ◌++◌, length, take, drop, set, sym, refl, ap, ◌∙◌, suc-add, arith, eq-eqb, eqb-true, ltb-true, ltb-false, lt-ltb, le-ltb}
+use Rattle.std.proofs.Common.{◌≡◌, ℕ, zero, suc, ◌+◌, ◌<◌, ◌≤◌, add-zero, Bool, true, false, not, cond, ◌&&◌, eqb, ltb, List, [], ◌∷◌, ◌++◌, length, take, drop, set, sym, refl, ap, ◌∙◌, suc-add, arith, eq-eqb, eqb-true, ltb-true, ltb-false, lt-ltb, le-ltb}
 use Rattle.std.proofs.lemmas.List.{take_all}
-use Rattle.std.specs.List.{position_or_len, zip, list_all}
+use Rattle.std.proofs.lemmas.List.Sums.{sum_by-cons}
+use Rattle.std.specs.List.{position_or_len, zip, list_all, sum_by}
 use Rattle.sheet.specs.Splits.{same}
+use Rattle.rules.specs.Steps.{left_open}
 use Rattle.rules.specs.Texts.{onto, text_lines}
 use Rattle.sheet.specs.Starts.{starts_at}
 use Rattle.sheet.specs.declared.split.LineStarts.{LineStarts}
@@ -20,6 +22,38 @@ lines_few (b ∷ bs) =
       | true ↦ omega arith
       | false ↦ let k = length_onto b (text_lines bs) in omega arith
     ]
+
+-- a newline counts one
+abbrev pub newline_of : ℕ → ℕ
+newline_of b = cond (eqb b 10) 1 0
+
+line_there : (b : ℕ) (v : Bool) (ls : List (List ℕ)) → 0 < length (cond v ((b ∷ []) ∷ ls) (onto b ls))
+line_there b true ls = omega arith
+line_there b false [] = omega arith
+line_there b false (l ∷ ls) = omega arith
+
+lines_step : (b : ℕ) (v : Bool) (ls : List (List ℕ)) → 0 < length ls → length (cond v ((b ∷ []) ∷ ls) (onto b ls)) ≡ cond v 1 0 + length ls
+lines_step b true ls h = omega arith
+lines_step b false [] h = absurd (omega arith)
+lines_step b false (l ∷ ls) h = omega arith
+
+last_step : (b : ℕ) (v : Bool) → length (cond v ((b ∷ []) ∷ []) (onto b [])) ≡ cond v 1 0 + cond (not v) 1 0
+last_step b true = refl
+last_step b false = refl
+
+-- a text has a line for each newline, and one more that is open
+pub lines_counted : (t : List ℕ) → length (text_lines t) ≡ sum_by newline_of t + cond (left_open false t) 1 0
+lines_counted [] = refl
+lines_counted (b ∷ []) = last_step b (eqb b 10) ∙ ap (λ n. n + cond (left_open false (b ∷ [])) 1 0) (sym (sum_by-cons newline_of b [] ∙ add-zero (newline_of b)))
+lines_counted (b ∷ (c ∷ cs)) =
+    let a = lines_step b (eqb b 10) (text_lines (c ∷ cs)) (line_there c (eqb c 10) (text_lines cs)) in
+    let e = lines_counted (c ∷ cs) in
+    let s = sum_by-cons newline_of b (c ∷ cs) in
+    a ∙ omega arith
+
+-- a text has no more newlines than bytes
+pub newlines_few : (t : List ℕ) → sum_by newline_of t ≤ length t
+newlines_few t = let e = lines_counted t in let h = lines_few t in omega arith
 
 -- the starts that are left
 abbrev pub starts_left : LineStarts → List ℕ
@@ -134,3 +168,10 @@ same_sound [] [] h = refl
 same_sound [] (y ∷ ys) h = cc
 same_sound (x ∷ xs) [] h = cc
 same_sound (x ∷ xs) (y ∷ ys) h = same_step x y xs ys (eqb x y) refl (same_sound xs ys) h
+
+same_ways : (xs ys : List ℕ) (v : Bool) → same xs ys ≡ v → (xs ≡ ys → ⊥) → same xs ys ≡ false
+same_ways xs ys true e h = absurd (h (same_sound xs ys e))
+same_ways xs ys false e h = e
+
+pub same_false : (xs ys : List ℕ) → (xs ≡ ys → ⊥) → same xs ys ≡ false
+same_false xs ys h = same_ways xs ys (same xs ys) refl h
