@@ -18,7 +18,7 @@ use Rattle.sink.proofs.Folds.{made_++}
 use Rattle.writing.specs.declared.pen.Pen.{Pen}
 use Rattle.writing.specs.States.{open_end, State, state, after, Keeps, stands, HasRoom, Wrote}
 
-abbrev piece : Kind → Line → Chunk
+abbrev pub piece : Kind → Line → Chunk
 piece k x = record { kind = k; bytes = x }
 
 pieces_close : (o : Bool) (c : Chunk) (ps qs rs : List Chunk) → ps ≡ qs ++ rs → cond o (c ∷ ps) ps ≡ cond o (c ∷ qs) qs ++ rs
@@ -39,11 +39,11 @@ total_append : (ps qs : List Chunk) → total (ps ++ qs) ≡ total ps + total qs
 total_append [] qs = omega arith
 total_append (c ∷ ps) qs = let i = total_append ps qs in omega arith
 
-same_state : {V : Type 0} (v v' : V) (t t' a : ℕ) (o o' : Bool) → v ≡ v' → t ≡ t' → o ≡ o' → state v t a o ≡ state v' t' a o'
+pub same_state : {V : Type 0} (v v' : V) (t t' a : ℕ) (o o' : Bool) → v ≡ v' → t ≡ t' → o ≡ o' → state v t a o ≡ state v' t' a o'
 same_state v v' t t' a o o' p q r = cc
 
 module _ {V : Type 0} (rule : V → Chunk → V) where
-  after_append : (s : State V) (xs ys : List Step) → after rule (after rule s xs) ys ≡ after rule s (xs ++ ys)
+  pub after_append : (s : State V) (xs ys : List Step) → after rule (after rule s xs) ys ≡ after rule s (xs ++ ys)
   after_append s xs ys =
       let e = pieces_append s.ajar xs ys in
       let ps = pieces_of s.ajar xs in
@@ -55,7 +55,7 @@ module _ {V : Type 0} (rule : V → Chunk → V) where
       (sym (open_append s.ajar xs ys))
 
 -- A writing that goes on keeps what both parts keep.
-keeps_on : {S : Type 0} {g : Ghosts S} {a b c : S} → Keeps g a b → Keeps g b c → Keeps g a c
+pub keeps_on : {S : Type 0} {g : Ghosts S} {a b c : S} → Keeps g a b → Keeps g b c → Keeps g a c
 keeps_on p q = record {
   forward = let a = p.forward in let b = q.forward in omega arith;
   alone = record {
@@ -112,11 +112,11 @@ module _ {S : Type 0} {g : Ghosts S} where
     whole = λ q v. u.whole q (subst (Wrote g p' q) (sym e.is) (wrote_on w v));
   }
 
-each_append : (k : Kind) (xs ys : List Line) → each k (xs ++ ys) ≡ each k xs ++ each k ys
+pub each_append : (k : Kind) (xs ys : List Line) → each k (xs ++ ys) ≡ each k xs ++ each k ys
 each_append k [] ys = refl
 each_append k (x ∷ xs) ys = ap (λ (v : List Step). put (piece k x) ∷ v) (each_append k xs ys)
 
-between_more : (ls : List Line) (n to : ℕ) → n < to → to ≤ length ls → between ls n to ≡ get_or ls n [] ∷ between ls (n + 1) to
+pub between_more : (ls : List Line) (n to : ℕ) → n < to → to ≤ length ls → between ls n to ≡ get_or ls n [] ∷ between ls (n + 1) to
 between_more ls n to lt le =
     let q : to - n ≡ suc (to - (n + 1)) = omega arith in
     ap₂ (λ (m : ℕ) (v : List Line). take m v) q (drop_more ls n [] (omega arith))

@@ -40,6 +40,22 @@ impl<'a, S: Sink> Pen<'a, S> {
         Pen { sink, ajar: false }
     }
 
+    /// A pen over a sink in which a line is open already, or is not.
+    pub fn over(sink: &'a mut S, ajar: bool) -> Pen<'a, S>
+        ensures same_sink { result.sink.ghost_name ≡ sink.entry.ghost_name }
+        ensures sink { result.sink.now ≡ sink.old }
+        ensures flag { result.ajar ≡ ajar }
+    {
+        Pen { sink, ajar }
+    }
+
+    /// Whether a line is open.
+    pub fn is_ajar(&self) -> bool
+        ensures { result ≡ self.now.ajar }
+    {
+        self.ajar
+    }
+
     /// Writes one piece.
     // Stays: each method names its steps in both clauses: `HasRoom` and `Wrote` are the words, and the steps are what the method is.
     pub fn piece(&mut self, piece: Piece<'_>)
