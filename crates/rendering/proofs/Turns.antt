@@ -58,7 +58,7 @@ told_marked m s l f [] = refl
 told_marked m s l f (h ∷ hs) = (groups_told m s l 0 (record { first = f; more = h ∷ hs })).marked
 
 -- What a turn needs and leaves.
-record OneTurn (m : modes.Conflict) (s : Sheets) (l : Labels) (since : ℕ) (cs os : List Hunk) (x : NextCluster) : Type 0 where
+pub record OneTurn (m : modes.Conflict) (s : Sheets) (l : Labels) (since : ℕ) (cs os : List Hunk) (x : NextCluster) : Type 0 where
   pub start : x.range.start ≤ length s.ancestor
   pub within : x.range.end ≤ length s.ancestor
   pub few_ours : length (take x.current cs) ≤ max_hunks
@@ -75,8 +75,8 @@ record OneTurn (m : modes.Conflict) (s : Sheets) (l : Labels) (since : ℕ) (cs 
   pub few_other : length (drop x.other os) ≤ max_hunks
   pub fewer : length (drop x.current cs) + length (drop x.other os) < length cs + length os
 
-one_turn : (m : modes.Conflict) (s : Sheets) (l : Labels) (since : ℕ) (cs os : List Hunk) → Kept s cs os → length cs ≤ max_hunks → length os ≤ max_hunks → (x : NextCluster) → Next cs os x → OneTurn m s l since cs os x
-one_turn m s l since cs os kept few_cs few_os x n = record {
+pub turn : (m : modes.Conflict) (s : Sheets) (l : Labels) (since : ℕ) (cs os : List Hunk) → Kept s cs os → length cs ≤ max_hunks → length os ≤ max_hunks → (x : NextCluster) → Next cs os x → OneTurn m s l since cs os x
+turn m s l since cs os kept few_cs few_os x n = record {
   start = (let a = r.forward in let b = r.within in omega arith);
   within = r.within;
   few_ours = few_taken x.current cs n.takes.our_bound few_cs;
@@ -123,6 +123,12 @@ one_turn m s l since cs os kept few_cs few_os x n = record {
         ap (λ (y : NextCluster). next_marked m s y (currents (members k)) (others (members k))) n.tells ∙
         told_marked m s l k.first k.more
 
+-- Where no cluster is left, the rest of the ancestor follows.
+pub last_steps : (m : modes.Conflict) (s : Sheets) (l : Labels) (since n : ℕ) (ks : List Cluster) → ks ≡ [] → n ≡ length s.ancestor
+    → steps_from m s l since ks ≡ each common (between s.ancestor since n)
+last_steps m s l since n ks e c =
+    ap (steps_from m s l since) e ∙ ap (each common) (sym (take_rest s.ancestor since)) ∙ ap (λ (v : ℕ). each common (between s.ancestor since v)) (sym c)
+
 -- What is left to write and to mark, at some place of the walk.
 abbrev pub steps_of : modes.Conflict → Sheets → Labels → Walk → List Step
 steps_of m s l w = steps_from m s l w.since (clusters (walk w.current.now w.other.now))
@@ -141,10 +147,10 @@ pub record Taking (m : modes.Conflict) (s : Sheets) (l : Labels) (before later :
   pub few : (length later.current.now ≤ max_hunks) × (length later.other.now ≤ max_hunks)
   pub fewer : length later.current.now + length later.other.now < length before.current.now + length before.other.now
 
-pub taking : (m : modes.Conflict) (s : Sheets) (l : Labels) (before later : Walk) (turn : Turn) → Kept s before.current.now before.other.now
-    → (length before.current.now ≤ max_hunks) × (length before.other.now ≤ max_hunks) → Turned before later turn → Taking m s l before later turn
-taking m s l before later turn kept few e =
-    let t = one_turn m s l before.since before.current.now before.other.now kept few.0 few.1 turn.cluster e.next in
+pub taking : (m : modes.Conflict) (s : Sheets) (l : Labels) (before later : Walk) (taken : Turn) → Kept s before.current.now before.other.now
+    → (length before.current.now ≤ max_hunks) × (length before.other.now ≤ max_hunks) → Turned before later taken → Taking m s l before later taken
+taking m s l before later taken kept few e =
+    let t = turn m s l before.since before.current.now before.other.now kept few.0 few.1 taken.cluster e.next in
     record {
       start = t.start;
       its_sheets = record {
@@ -198,10 +204,10 @@ module _ {S : Type 0} (k : Ghosts S) (m : modes.Conflict) (s : Sheets) (l : Labe
         marking = or_assoc marked found (marked_of m s later) ∙ ap (λ (b : Bool). marked || (b || marked_of m s later)) f ∙ ap (λ (b : Bool). marked || b) (sym taken.marked) ∙ g.marking;
       }
 
-  -- Where no cluster is left, the rest of the ancestor follows.
+  -- No cluster is left.
   module _ (e : clusters (walk left.current.now left.other.now) ≡ []) (n : ℕ) (c : n ≡ length s.ancestor) where
     last : steps_of m s l left ≡ each common (between s.ancestor left.since n)
-    last = ap (steps_from m s l left.since) e ∙ ap (each common) (sym (take_rest s.ancestor left.since)) ∙ ap (λ (v : ℕ). each common (between s.ancestor left.since v)) (sym c)
+    last = last_steps m s l left.since n _ e c
 
     pub last_room : HasRoom k pen (each common (between s.ancestor left.since n))
     last_room = subst (HasRoom k pen) last g.writing.room

@@ -2,5 +2,5 @@
 #![tactic(auto)]
 
 pub mod measure;
-mod walk;
+pub mod walk;
 pub mod whole;

@@ -17,11 +17,11 @@ pub(crate) struct Walk<'a> {
 // Stays: (d) the fields that have a walk's names hold other things: a turn's lists are the hunks taken, a walk's those that are left.
 /// A cluster taken off the walk, with its hunks of both sides, and the line at which the one before it ended.
 #[derive(Clone, Copy)]
-pub(crate) struct Turn<'a> {
-    pub(crate) since: u32,
-    pub(crate) cluster: NextCluster,
-    pub(crate) current: &'a [Hunk],
-    pub(crate) other: &'a [Hunk],
+pub struct Turn<'a> {
+    pub since: u32,
+    pub cluster: NextCluster,
+    pub current: &'a [Hunk],
+    pub other: &'a [Hunk],
 }
 
 // Stays: (c) no `Iterator`: behind `for turn in &mut walk` a proof knows nothing of the walk, where the ancestor's last lines begin; the loop's invariant sees the walk, but not its loan ("record `Walk` has no field `ghost_name`").

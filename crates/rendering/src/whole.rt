@@ -35,8 +35,8 @@ pub struct Rendering<'a, T> {
 }
 
 impl<'a, T: ThreeSheets> Rendering<'a, T> {
-    // Writes a cluster: a group as the mode says, a lone hunk's lines as common. Answers whether the mode marks it.
-    fn write_turn<S: Sink>(&self, turn: Turn<'_>, desk: &mut Desk, pen: &mut Pen<'_, S>) -> bool
+    /// Writes a cluster by a pen: a group as the mode says, a lone hunk's lines as common. Answers whether the mode marks it.
+    pub fn write_turn<S: Sink>(&self, turn: Turn<'_>, desk: &mut Desk, pen: &mut Pen<'_, S>) -> bool
         requires turn { TurnOf (T.sheets self.now.three.now) turn }
         requires size { size_of self.now.mode ≤ max_marker_size }
         requires room { HasRoom S.Sink pen.old (turn_steps self.now.mode (T.sheets self.now.three.now) (labels_in self.now.labels) turn) }
@@ -66,8 +66,9 @@ impl<'a, T: ThreeSheets> Rendering<'a, T> {
         }
     }
 
-    // Writes the ancestor's lines between the clusters, and each cluster. Answers whether the mode marks a group.
-    fn write_by<S: Sink>(&self, pen: &mut Pen<'_, S>) -> bool
+    /// Writes the ancestor's lines between the clusters, and each cluster, by a pen, which can be asked afterwards whether a line
+    /// is open. Answers whether the mode marks a group.
+    pub fn write_by<S: Sink>(&self, pen: &mut Pen<'_, S>) -> bool
         requires writable { Writable T.ThreeSheets self.now }
         requires room { HasRoom S.Sink pen.old (steps_in T.ThreeSheets self.now) }
         ensures wrote { Wrote S.Sink pen.old pen.new (steps_in T.ThreeSheets self.now) }
