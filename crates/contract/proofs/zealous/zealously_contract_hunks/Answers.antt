@@ -28,5 +28,5 @@ returns g c =
     let f = c.contract_front.ensures in
     let e = c.contract_back.ensures in
     let w = both_ends s a b c.contract_front.new.lead c.contract_front.new.facing c.contract_front.new.removed c.contract_back.new.lead c.contract_back.new.facing c.contract_back.new.removed
-    f.lead f.facing f.removed e.lead e.facing e.removed _ _ _ c.len.ensures c.len-in_front.ensures c.len-2.ensures in
+    f.lead f.facing f.removed e.lead e.facing e.removed _ _ _ c.len.ensures.value c.len-in_front.ensures.value c.len-2.ensures.value in
     record { lead = w.lead; facing = w.facing; removed = w.removed; counts = w.counts }
