@@ -57,12 +57,14 @@ impl<const N: usize> HunkList<N> {
         ensures after { self.new ≡ pushed N self.old hunk }
         ensures same { is_err result ≡ true → self.new ≡ self.old }
     {
-        if self.len == N {
-            return Err(Full);
+        let at = self.len;
+        if at < N {
+            self.items[at] = hunk;
+            self.len = at + 1;
+            Ok(())
+        } else {
+            Err(Full)
         }
-        self.items[self.len] = hunk;
-        self.len += 1;
-        Ok(())
     }
 
     /// Takes the last hunk out, or nothing of an empty list.
@@ -89,13 +91,12 @@ impl<const N: usize> HunkList<N> {
         ensures after { self.new ≡ pushed_all N self.old hunks.now }
         ensures same { is_err result ≡ true → self.new ≡ self.old }
     {
-        if hunks.len() > N - self.len {
+        if hunks.len() > N - self.len() {
             return Err(Full);
         }
-        let end = self.len + hunks.len();
-        let places = &mut self.items[..];
-        places[self.len..end].copy_from_slice(hunks);
-        self.len = end;
+        for hunk in hunks {
+            let _ = self.push(*hunk);
+        }
         Ok(())
     }
 
