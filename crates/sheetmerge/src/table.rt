@@ -1,7 +1,6 @@
 //! The hunks that a table holds, listed.
-use crate::report::say;
+use crate::words::Listed;
 use hunks::table::HunkTable;
-use job::names::Named;
 use job::outcome::Outcome;
 use rules::hunk::{Hunk, Side};
 use std::io;
@@ -19,10 +18,8 @@ pub fn list_held(rt: &HostRuntime, table: &HunkTable) -> io::Result<Outcome> {
 }
 
 fn list_side(rt: &HostRuntime, side: Side, hunks: &[Hunk]) -> io::Result<()> {
-    let side = side.name();
     for hunk in hunks {
-        print!(rt; "  {side} ")?;
-        say(rt, hunk, b"\n")?;
+        println!(rt; "{}", Listed { side, hunk: *hunk })?;
     }
     Ok(())
 }

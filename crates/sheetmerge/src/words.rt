@@ -1,6 +1,13 @@
 //! What the program says of sheets, counts, lines and a job.
+ghost use Rattle.std.specs.Prelude.{◌≡◌, Some};
+ghost use Rattle.sheetmerge.specs.Words.{ending_text, listed_text};
+
 use job::command::LineCounts;
+use job::names::Named;
 use job::outcome::Summary;
+use rules::ending::Ending;
+use rules::hunk::{Hunk, Side};
+use sheet::line::ending_of;
 use sheet::sheet::Sheet;
 use sheet::total::bytes_in;
 use std::fmt;
@@ -52,6 +59,30 @@ impl fmt::Display for Held {
     }
 }
 
+/// A hunk that a side holds, as it is listed.
+#[derive(Clone, Copy)]
+pub struct Listed {
+    pub side: Side,
+    pub hunk: Hunk,
+}
+
+impl fmt::Display for Listed {
+    ghost output = { λ listed. Some (listed_text listed.side listed.hunk) };
+
+    fn fmt<W: fmt::Write>(&self, f: &mut fmt::Formatter<W>) -> fmt::Result {
+        let Hunk { before, after, .. } = self.hunk;
+        write!(
+            f,
+            "  {} {}..{}/{}..{}",
+            self.side.name(),
+            before.start,
+            before.end,
+            after.start,
+            after.end
+        )
+    }
+}
+
 /// A job's commands, counted by what came of them.
 #[derive(Clone, Copy)]
 pub struct Summed(pub Summary);
@@ -73,11 +104,13 @@ impl fmt::Display for Summed {
 }
 
 /// How a line ends, in a column of its own.
-// Stays: (a) slice patterns on the borrowed line decide it; `ending_of` answers nothing of a newline alone.
-pub fn ending_word(line: &[u8]) -> &'static str {
-    match line {
-        [.., b'\r', b'\n'] => "cr lf",
-        [.., b'\n'] => "lf",
-        _ => "open",
+// Stays: (a) each ending has its word; a slice pattern tells a newline alone, of which `ending_of` answers nothing.
+pub fn ending_word(line: &[u8]) -> &'static str
+    ensures { result.now ≡ ending_text line.now }
+{
+    match (ending_of(line), line) {
+        (Some(Ending::ReturnNewline), _) => "cr lf",
+        (Some(Ending::Newline), _) | (None, [.., b'\n']) => "lf",
+        (None, _) => "open",
     }
 }
