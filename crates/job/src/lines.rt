@@ -52,7 +52,7 @@ pub fn line_end(job: &[u8], from: usize) -> usize
 }
 
 /// How many bytes stand ahead of the first such byte from a place on.
-pub(crate) fn find_from(byte: u8, bytes: &[u8], from: usize) -> Option<usize>
+fn find_from(byte: u8, bytes: &[u8], from: usize) -> Option<usize>
     ensures { result ≡ position (λ b. b == byte) (drop from bytes.now) }
 {
     bytes.iter().skip(from).position(|b| *b == byte)

@@ -8,7 +8,7 @@ use rules::hunk::Side;
 /// Things that have a name each, of which no two are the same.
 // Stays: (d) reading and spelling share one table, and the law `back` ties them; `FromStr` and `Display` apart would not owe that they fit.
 pub trait Named: Copy + 'static {
-    ghost use Rattle.std.specs.Prelude.{List, ℕ, Some};
+    ghost use Rattle.std.specs.Prelude.{◌≤◌, List, ℕ, Some, length};
 
     ghost all: { List Self };
 
@@ -21,12 +21,21 @@ pub trait Named: Copy + 'static {
         ensures { result.now ≡ name self };
 
     ghost back: { (x : Self) → named name all (name x) ≡ Some x };
+
+    // No name is longer than `LONGEST_NAME`.
+    ghost short: { (x : Self) → length (name x) ≤ 8 };
 }
+
+/// The length of the longest name. A line is not gone through for a word that is longer.
+pub(crate) const LONGEST_NAME: usize = 8;
 
 /// What a whole word names.
 pub fn from_name<N: Named>(word: &[u8]) -> Option<N>
     ensures { result ≡ named N.name N.all word.now }
 {
+    if word.len() > LONGEST_NAME {
+        return None;
+    }
     N::all()
         .iter()
         .copied()
@@ -53,6 +62,8 @@ impl Named for Side {
     }
 
     ghost back = { Prim.search rules };
+
+    ghost short = { Prim.search rules };
 }
 
 impl Named for SheetKind {
@@ -74,6 +85,8 @@ impl Named for SheetKind {
     }
 
     ghost back = { Prim.search rules };
+
+    ghost short = { Prim.search rules };
 }
 
 impl Named for Verb {
@@ -110,4 +123,6 @@ impl Named for Verb {
     }
 
     ghost back = { Prim.search rules };
+
+    ghost short = { Prim.search rules };
 }
