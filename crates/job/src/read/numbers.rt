@@ -1,7 +1,6 @@
 //! Decimal numbers in a line.
-ghost use Rattle.std.specs.Prelude.{◌≡◌, ℕ, ◌≤◌, true, length};
+ghost use Rattle.std.specs.Prelude.{◌≡◌, ℕ, ◌≤◌, length};
 ghost use Rattle.std.specs.Option.{option_map};
-ghost use Rattle.std.specs.Str.{all_ascii_digits};
 ghost use Rattle.job.specs.Numbers.{digit_count, front_number, last_number, number_of, number_then};
 ghost use Rattle.job.specs.Words.{told};
 
@@ -22,7 +21,6 @@ pub(super) fn last_number(line: &[u8]) -> Option<u32>
 }
 
 /// The number at the front of a line, and what follows it.
-#[tactic(auto, using(crate::proofs::Numerals::front_digits))]
 fn front_number(line: &[u8]) -> Option<(u32, &[u8])>
     ensures { option_map told result ≡ front_number line.now }
 {
@@ -39,9 +37,15 @@ fn digit_count(line: &[u8]) -> usize
 }
 
 /// The number that digits write, if there is one and it fits.
+// Stays: (d) `from_utf8` and `parse` take twice the instructions, a line of a job through.
 fn number_of(digits: &[u8]) -> Option<u32>
-    requires { all_ascii_digits digits.now ≡ true }
     ensures { result ≡ number_of digits.now }
 {
-    str::from_utf8(digits).ok()?.parse().ok()
+    let mut n: u32 = 0;
+    for d in digits {
+        n = n
+            .checked_mul(10)?
+            .checked_add(d.saturating_sub(b'0') as u32)?;
+    }
+    (!digits.is_empty()).then_some(n)
 }

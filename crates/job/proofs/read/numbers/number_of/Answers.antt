@@ -1,12 +1,13 @@
-use Rattle.std.proofs.Common.{sym, subst, ◌∙◌}
-use Rattle.std.specs.Str.Parse.{ParsesUnsigned}
-use Rattle.job.proofs.Numerals.{not_text, parsed, text_is}
+use Rattle.std.proofs.Common.{arith, rules}
+use Rattle.job.proofs.Numerals.{too_large_on}
 use Rattle.job.proofs.read.numbers.number_of.Goals as goal
 
-pub returns-in_err-ok : goal.returns-in_err-ok
-returns-in_err-ok c = absurd (not_text _ _ c.args.digits.now c.from_utf8.result c.from_utf8.ensures.cases c.requires (sym c.ok.ensures.value ∙ c.in_err-ok.was))
+pub returns-in_err-checked_mul : goal.returns-in_err-checked_mul
+returns-in_err-checked_mul c =
+    let h = too_large_on c.loop-d.n c.loop-d.d-index c.args.digits.now c.checked_mul.result _ _ c.checked_mul.ensures c.in_err-checked_mul.was (omega arith) c.loop-d-test.true c.loop-d.invariant in
+    search rules
 
-pub returns : goal.returns
-returns c =
-    let e = text_is _ c.args.digits.now c.from_utf8.result c.in_ok-ok.field-0 c.from_utf8.ensures.cases (sym c.ok.ensures.value ∙ c.in_ok-ok.was) in
-    c.ok-2.ensures.value ∙ parsed c.args.digits.now c.parse.result (subst (λ t. ParsesUnsigned 32 10 t c.parse.result) e c.parse.ensures.value.0) c.requires
+pub returns-in_err-n : goal.returns-in_err-n
+returns-in_err-n c =
+    let h = too_large_on c.loop-d.n c.loop-d.d-index c.args.digits.now c.checked_add.result _ _ c.checked_add.ensures c.in_err-n.was (omega (arith, c.saturating_sub.ensures, c.in_ok-checked_mul.ensures)) c.loop-d-test.true c.loop-d.invariant in
+    search rules
