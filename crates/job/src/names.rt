@@ -8,7 +8,7 @@ use rules::hunk::Side;
 /// Things that have a name each, of which no two are the same.
 // Stays: (d) reading and spelling share one table, and the law `back` ties them; `FromStr` and `Display` apart would not owe that they fit.
 pub trait Named: Copy + 'static {
-    ghost use Rattle.std.specs.Prelude.{◌≤◌, List, ℕ, Some, length};
+    ghost use Rattle.std.specs.Prelude.{List, ℕ, Some};
 
     ghost all: { List Self };
 
@@ -21,9 +21,13 @@ pub trait Named: Copy + 'static {
         ensures { result.now ≡ name self };
 
     ghost back: { (x : Self) → named name all (name x) ≡ Some x };
+}
 
-    // No name is longer than `LONGEST_NAME`.
-    ghost short: { (x : Self) → length (name x) ≤ 8 };
+/// Things whose names are no longer than `LONGEST_NAME`.
+pub(crate) trait ShortNamed: Named {
+    ghost use Rattle.std.specs.Prelude.{◌≤◌, length};
+
+    ghost short: { (x : Self) → length (Self.name x) ≤ 8 };
 }
 
 /// The length of the longest name. A line is not gone through for a word that is longer.
@@ -33,9 +37,6 @@ pub(crate) const LONGEST_NAME: usize = 8;
 pub fn from_name<N: Named>(word: &[u8]) -> Option<N>
     ensures { result ≡ named N.name N.all word.now }
 {
-    if word.len() > LONGEST_NAME {
-        return None;
-    }
     N::all()
         .iter()
         .copied()
@@ -62,6 +63,10 @@ impl Named for Side {
     }
 
     ghost back = { Prim.search rules };
+}
+
+impl ShortNamed for Side {
+    ghost use Rattle.std.proofs.Common.{rules};
 
     ghost short = { Prim.search rules };
 }
@@ -85,6 +90,10 @@ impl Named for SheetKind {
     }
 
     ghost back = { Prim.search rules };
+}
+
+impl ShortNamed for SheetKind {
+    ghost use Rattle.std.proofs.Common.{rules};
 
     ghost short = { Prim.search rules };
 }
@@ -123,6 +132,10 @@ impl Named for Verb {
     }
 
     ghost back = { Prim.search rules };
+}
+
+impl ShortNamed for Verb {
+    ghost use Rattle.std.proofs.Common.{rules};
 
     ghost short = { Prim.search rules };
 }

@@ -3,10 +3,10 @@ ghost use Rattle.std.specs.Prelude.{◌≡◌, ◌==◌, position, take};
 ghost use Rattle.std.specs.Option.{option_map};
 ghost use Rattle.job.specs.Words.{both_told, front_named, front_word, short_word, told};
 
-use crate::names::{LONGEST_NAME, Named, from_name};
+use crate::names::{LONGEST_NAME, ShortNamed, from_name};
 
 /// What the first word of a line names, and what follows the space behind it.
-pub(super) fn front_named<N: Named>(line: &[u8]) -> Option<(N, &[u8])>
+pub(super) fn front_named<N: ShortNamed>(line: &[u8]) -> Option<(N, &[u8])>
     ensures { option_map told result ≡ front_named N.name N.all line.now }
 {
     let (word, rest) = front_word(line)?;
