@@ -1,13 +1,139 @@
-use Rattle.std.proofs.Common.{◌≡◌, ℕ, zero, suc, ◌+◌, ◌<◌, ◌≤◌, add-zero, Bool, true, false, not, cond, ◌&&◌, eqb, ltb, List, [], ◌∷◌, ◌++◌, length, take, drop, set, sym, refl, ap, ◌∙◌, suc-add, arith, eq-eqb, eqb-true, ltb-true, ltb-false, lt-ltb, le-ltb}
-use Rattle.std.proofs.lemmas.List.{take_all}
+use Rattle.std.proofs.Common.{◌≡◌, ℕ, suc, ◌+◌, ◌<◌, ◌≤◌, add-zero, Bool, true, false, not, cond, eqb, List, [], ◌∷◌, ◌++◌, length, get_or, take, drop, set, sym, refl, ap, ◌∙◌, append_assoc, arith, length-append, eq-eqb, eqb-true}
+use Rattle.std.proofs.lemmas.List.{at_drop_more, at_drop_all, append-nil, take_more_set, drop-set-lt, drop-drop, take-append-drop, length-take-le, get_or-take, get_or_at, take_more}
 use Rattle.std.proofs.lemmas.List.Sums.{sum_by-cons}
-use Rattle.std.specs.List.{position_or_len, zip, list_all, sum_by}
-use Rattle.sheet.specs.Splits.{same}
+use Rattle.std.specs.List.{sum_by}
 use Rattle.rules.specs.Steps.{left_open}
+use Rattle.sheet.specs.Splits.{filled, same}
 use Rattle.rules.specs.Texts.{onto, text_lines}
-use Rattle.sheet.specs.Starts.{starts_at}
-use Rattle.sheet.specs.declared.split.LineStarts.{LineStarts}
+use Rattle.sheet.specs.Starts.{starts_at, starts_of}
 use Rattle.sheet.proofs.LineLaws.{length_starts}
+
+-- the starts that a walk still finds from place i on, where a line begins there or not
+abbrev pub starts_from : ℕ → Bool → List ℕ → List ℕ
+starts_from i fresh [] = []
+starts_from i true (b ∷ bs) = i ∷ starts_from (i + 1) (eqb b 10) bs
+starts_from i false (b ∷ bs) = starts_from (i + 1) (eqb b 10) bs
+
+abbrev tail : List ℕ → List ℕ
+tail [] = []
+tail (x ∷ xs) = xs
+
+starts_onto : (i b : ℕ) (ls : List (List ℕ)) → starts_at i (onto b ls) ≡ i ∷ tail (starts_at (i + 1) ls)
+starts_onto i b [] = refl
+starts_onto i b (l ∷ ls) = ap (λ k. i ∷ starts_at k ls) (omega arith)
+
+walk : (i : ℕ) (t : List ℕ) → (starts_from i true t ≡ starts_at i (text_lines t)) × (starts_from i false t ≡ tail (starts_at i (text_lines t)))
+walk i [] = (refl, refl)
+walk i (b ∷ bs) =
+    let h = walk (i + 1) bs in
+    let e : i ∷ starts_from (i + 1) (eqb b 10) bs ≡ starts_at i (cond (eqb b 10) ((b ∷ []) ∷ text_lines bs) (onto b (text_lines bs))) =
+    elim (eqb b 10) as (λ v. i ∷ starts_from (i + 1) v bs ≡ starts_at i (cond v ((b ∷ []) ∷ text_lines bs) (onto b (text_lines bs))))
+    [ true ↦ ap (λ k. i ∷ k) h.0 | false ↦ ap (λ k. i ∷ k) h.1 ∙ sym (starts_onto i b (text_lines bs)) ] in
+    (e, ap tail e)
+
+pub from_first : (t : List ℕ) → starts_from 0 true t ≡ starts_of t
+from_first t = (walk 0 t).0
+
+pub length_from_first : (t : List ℕ) → length (starts_from 0 true t) ≡ length (text_lines t)
+length_from_first t = ap length (from_first t) ∙ length_starts 0 (text_lines t)
+
+-- one step of the walk, and its end
+pub step_then : (i : ℕ) (f : Bool) (t : List ℕ) → f ≡ true → i < length t → starts_from i f (drop i t) ≡ i ∷ starts_from (i + 1) (eqb (get_or t i 0) 10) (drop (i + 1) t)
+step_then i f t e h = ap (λ v. starts_from i v (drop i t)) e ∙ at_drop_more (starts_from i true) t i 0 h
+
+pub step_else : (i : ℕ) (f : Bool) (t : List ℕ) → f ≡ false → i < length t → starts_from i f (drop i t) ≡ starts_from (i + 1) (eqb (get_or t i 0) 10) (drop (i + 1) t)
+step_else i f t e h = ap (λ v. starts_from i v (drop i t)) e ∙ at_drop_more (starts_from i false) t i 0 h
+
+pub step_end : (i : ℕ) (f : Bool) (t : List ℕ) → length t ≤ i → starts_from i f (drop i t) ≡ []
+step_end i f t h = at_drop_all (starts_from i f) t i h
+
+-- what a walk keeps that has passed `count` starts, which stand in the table
+abbrev pub Kept : List ℕ → List ℕ → ℕ → ℕ → Bool → Type 0
+Kept t table count i f = take count table ++ starts_from i f (drop i t) ≡ starts_of t
+
+pub kept_first : (t table : List ℕ) → Kept t table 0 0 true
+kept_first t table = from_first t
+
+pub kept_room : (t table : List ℕ) (count i : ℕ) (f : Bool) → f ≡ true → i < length t → count ≤ length table → length (text_lines t) ≤ length table → Kept t table count i f → count < length table
+kept_room t table count i f e h room fits k =
+    let a = ap length k in
+    let b = length-append (take count table) (starts_from i f (drop i t)) in
+    let d = length-take-le count table room in
+    let g = ap length (step_then i f t e h) in
+    let n = length_starts 0 (text_lines t) in
+    omega arith
+
+pub kept_set : (t table : List ℕ) (count i : ℕ) (f : Bool) → f ≡ true → i < length t → count < length table → Kept t table count i f → take (count + 1) (set table count i) ++ starts_from (i + 1) (eqb (get_or t i 0) 10) (drop (i + 1) t) ≡ starts_of t
+kept_set t table count i f e h room k =
+    ap (λ xs. xs ++ starts_from (i + 1) (eqb (get_or t i 0) 10) (drop (i + 1) t)) (take_more_set table count i room) ∙
+    append_assoc (take count table) (i ∷ []) (starts_from (i + 1) (eqb (get_or t i 0) 10) (drop (i + 1) t)) ∙
+    ap (λ xs. take count table ++ xs) (sym (step_then i f t e h)) ∙ k
+
+pub kept_same : (t table : List ℕ) (count i : ℕ) (f : Bool) → f ≡ true → i < length t → count < length table → get_or table count 0 ≡ i → Kept t table count i f → Kept t table (count + 1) (i + 1) (eqb (get_or t i 0) 10)
+kept_same t table count i f e h room q k =
+    ap (λ xs. xs ++ starts_from (i + 1) (eqb (get_or t i 0) 10) (drop (i + 1) t)) (take_more table count 0 room ∙ ap (λ x. take count table ++ x ∷ []) q) ∙
+    append_assoc (take count table) (i ∷ []) (starts_from (i + 1) (eqb (get_or t i 0) 10) (drop (i + 1) t)) ∙
+    ap (λ xs. take count table ++ xs) (sym (step_then i f t e h)) ∙ k
+
+pub kept_on : (t table : List ℕ) (count i : ℕ) (f : Bool) → f ≡ false → i < length t → Kept t table count i f → Kept t table count (i + 1) (eqb (get_or t i 0) 10)
+kept_on t table count i f e h k = ap (λ xs. take count table ++ xs) (sym (step_else i f t e h)) ∙ k
+
+pub kept_end : (t table : List ℕ) (count i : ℕ) (f : Bool) → length t ≤ i → Kept t table count i f → take count table ≡ starts_of t
+kept_end t table count i f h k = sym (append-nil (take count table)) ∙ ap (λ xs. take count table ++ xs) (sym (step_end i f t h)) ∙ k
+
+pub count_end : (t table : List ℕ) (count : ℕ) → count ≤ length table → take count table ≡ starts_of t → count ≡ length (text_lines t)
+count_end t table count room e = sym (length-take-le count table room) ∙ ap length e ∙ length_starts 0 (text_lines t)
+
+-- places behind those written
+pub behind_set : (old table : List ℕ) (count i : ℕ) → drop count table ≡ drop count old → drop (count + 1) (set table count i) ≡ drop (count + 1) old
+behind_set old table count i e =
+    drop-set-lt (count + 1) table count i (omega arith) ∙ sym (drop-drop 1 count table) ∙ ap (drop 1) e ∙ drop-drop 1 count old
+
+pub whole : (t old table : List ℕ) (count : ℕ) → count ≤ length table → take count table ≡ starts_of t → drop count table ≡ drop count old → table ≡ filled t old
+whole t old table count room e f =
+    let n = count_end t table count room e in
+    sym (take-append-drop count table) ∙ ap (λ xs. xs ++ drop count table) e ∙ ap (λ xs. starts_of t ++ xs) (f ∙ ap (λ k. drop k old) n)
+
+-- the test of two lists
+pub same_refl : (xs : List ℕ) → same xs xs ≡ true
+same_refl [] = refl
+same_refl (x ∷ xs) = ap (λ v. cond v (same xs xs) false) (eq-eqb x x refl) ∙ same_refl xs
+
+same_step : (x y : ℕ) (xs ys : List ℕ) (v : Bool) → eqb x y ≡ v → (same xs ys ≡ true → xs ≡ ys) → cond v (same xs ys) false ≡ true → x ∷ xs ≡ y ∷ ys
+same_step x y xs ys true e f h = let a = eqb-true x y e in let b = f h in cc
+same_step x y xs ys false e f h = cc
+
+pub same_sound : (xs ys : List ℕ) → same xs ys ≡ true → xs ≡ ys
+same_sound [] [] h = refl
+same_sound [] (y ∷ ys) h = cc
+same_sound (x ∷ xs) [] h = cc
+same_sound (x ∷ xs) (y ∷ ys) h = same_step x y xs ys (eqb x y) refl (same_sound xs ys) h
+
+same_ways : (xs ys : List ℕ) (v : Bool) → same xs ys ≡ v → (xs ≡ ys → ⊥) → same xs ys ≡ false
+same_ways xs ys true e h = absurd (h (same_sound xs ys e))
+same_ways xs ys false e h = e
+
+pub same_false : (xs ys : List ℕ) → (xs ≡ ys → ⊥) → same xs ys ≡ false
+same_false xs ys h = same_ways xs ys (same xs ys) refl h
+
+pub stands : (t table : List ℕ) (count : ℕ) → count ≤ length table → take count table ≡ starts_of t → true ≡ same (take (length (text_lines t)) table) (starts_of t)
+stands t table count room e =
+    let n = count_end t table count room e in
+    sym (ap (λ xs. same xs (starts_of t)) (ap (λ k. take k table) (sym n) ∙ e) ∙ same_refl (starts_of t))
+
+pub differs : (t table : List ℕ) (count i : ℕ) (f : Bool) → f ≡ true → i < length t → count ≤ length table → length (text_lines t) ≤ length table → Kept t table count i f → (get_or table count 0 ≡ i → ⊥) → false ≡ same (take (length (text_lines t)) table) (starts_of t)
+differs t table count i f e h room fits k ne =
+    let lt = kept_room t table count i f e h room fits k in
+    let s = step_then i f t e h in
+    let rest = starts_from (i + 1) (eqb (get_or t i 0) 10) (drop (i + 1) t) in
+    let whole : take count table ++ (i ∷ rest) ≡ starts_of t = ap (λ xs. take count table ++ xs) (sym s) ∙ k in
+    let d = length-take-le count table room in
+    let at : get_or (starts_of t) count 0 ≡ i = ap (λ xs. get_or xs count 0) (sym whole) ∙ get_or_at (take count table) i rest 0 count d in
+    let n = length_starts 0 (text_lines t) in
+    let m = ap length whole in
+    let q = length-append (take count table) (i ∷ rest) in
+    let below : count < length (text_lines t) = omega arith in
+    sym (same_false _ _ (λ w. ne (sym (get_or-take (length (text_lines t)) table count 0 below) ∙ ap (λ xs. get_or xs count 0) w ∙ at)))
 
 -- a text has no more lines than bytes
 length_onto : (b : ℕ) (ls : List (List ℕ)) → length (onto b ls) ≤ suc (length ls)
@@ -54,124 +180,3 @@ lines_counted (b ∷ (c ∷ cs)) =
 -- a text has no more newlines than bytes
 pub newlines_few : (t : List ℕ) → sum_by newline_of t ≤ length t
 newlines_few t = let e = lines_counted t in let h = lines_few t in omega arith
-
--- the starts that are left
-abbrev pub starts_left : LineStarts → List ℕ
-starts_left s = starts_at s.at (text_lines s.rest.now)
-
-pub left_few : (s : LineStarts) → length (starts_left s) ≤ 60000
-left_few s =
-    let h = length_starts s.at (text_lines s.rest.now) in
-    let k = lines_few s.rest.now in
-    let b = s.bounded in
-    omega arith
-
--- where the first line of a text ends: behind its first newline, or where the text ends
-abbrev pub first_end : List ℕ → ℕ
-first_end t = cond (ltb (position_or_len (λ b. eqb b 10) t) (length t)) (position_or_len (λ b. eqb b 10) t + 1) (length t)
-
-abbrev cut_len : List ℕ → ℕ
-cut_len [] = 0
-cut_len (b ∷ bs) = cond (eqb b 10) 1 (suc (cut_len bs))
-
-end_step : (v w : Bool) (q n c : ℕ) → ltb q n ≡ w → cond w (q + 1) n ≡ c → cond (ltb (cond (not v) (1 + q) 0) (suc n)) (cond (not v) (1 + q) 0 + 1) (suc n) ≡ cond v 1 (suc c)
-end_step true w q n c h e = ap (λ x. cond x 1 (suc n)) (lt-ltb 0 (suc n) (omega arith))
-end_step false true q n c h e =
-    let l = ltb-true q n h in
-    let k : q + 1 ≡ c = e in
-    ap (λ x. cond x (1 + q + 1) (suc n)) (lt-ltb (1 + q) (suc n) (omega arith)) ∙ omega arith
-end_step false false q n c h e =
-    let l = ltb-false q n h in
-    ap (λ x. cond x (1 + q + 1) (suc n)) (le-ltb (1 + q) (suc n) (omega arith)) ∙ ap suc e
-
-end_is : (t : List ℕ) → first_end t ≡ cut_len t
-end_is [] = refl
-end_is (b ∷ bs) = end_step (eqb b 10) _ (position_or_len (λ b. eqb b 10) bs) (length bs) (cut_len bs) refl (end_is bs)
-
-cut_first : (t : List ℕ) → 0 < length t → text_lines t ≡ take (cut_len t) t ∷ text_lines (drop (cut_len t) t)
-cut_first [] h = absurd (omega arith)
-cut_first (b ∷ []) h =
-    elim (eqb b 10) as (λ v. cond v ((b ∷ []) ∷ []) (onto b []) ≡ take (cond v 1 1) (b ∷ []) ∷ text_lines (drop (cond v 1 1) (b ∷ [])))
-    [ true ↦ refl | false ↦ refl ]
-cut_first (b ∷ (c ∷ cs)) h =
-    let k = cut_len (c ∷ cs) in
-    elim (eqb b 10) as (λ v. cond v ((b ∷ []) ∷ text_lines (c ∷ cs)) (onto b (text_lines (c ∷ cs))) ≡ take (cond v 1 (suc k)) (b ∷ (c ∷ cs)) ∷ text_lines (drop (cond v 1 (suc k)) (b ∷ (c ∷ cs)))) [
-      | true ↦ refl
-      | false ↦ ap (onto b) (cut_first (c ∷ cs) (omega arith))
-    ]
-
-pub first_cut : (t : List ℕ) (k : ℕ) → 0 < length t → k ≡ first_end t → text_lines t ≡ take k t ∷ text_lines (drop k t)
-first_cut t k h e = cut_first t h ∙ ap (λ n. take n t ∷ text_lines (drop n t)) (sym (end_is t) ∙ sym e)
-
--- a table in which the first n starts are written, where those of `left` are not
-abbrev pub Written : List ℕ → List ℕ → List ℕ → ℕ → List ℕ → Type 0
-Written ss old table n left = (table ≡ take n ss ++ drop n old) × (left ≡ drop n ss) × (n ≤ length ss)
-
--- one start more
-step_on : (ss old : List ℕ) (n s : ℕ) (left : List ℕ) → s ∷ left ≡ drop n ss → length ss ≤ length old → (n < length ss) × (set (take n ss ++ drop n old) n s ≡ take (n + 1) ss ++ drop (n + 1) old) × (left ≡ drop (n + 1) ss)
-step_on [] old zero s left e h = absurd (let z : ◌≡◌ {A = ℕ} 0 1 = cc in omega arith)
-step_on [] old (suc n) s left e h = absurd (let z : ◌≡◌ {A = ℕ} 0 1 = cc in omega arith)
-step_on (t ∷ ss) [] n s left e h = absurd (omega arith)
-step_on (t ∷ ss) (x ∷ old) zero s left e h =
-    let f : s ≡ t = cc in
-    let g : left ≡ ss = cc in
-    (omega arith, ap (λ k. k ∷ old) f, g)
-step_on (t ∷ ss) (x ∷ old) (suc n) s left e h =
-    let r = step_on ss old n s left e (omega arith) in
-    (let k = r.0 in omega arith, rw suc-add (ap (λ xs. t ∷ xs) r.1), rw suc-add r.2)
-
-pub written_room : (ss old table : List ℕ) (n i s : ℕ) (left rest : List ℕ) → length ss ≤ length old → Written ss old table n left → left ≡ s ∷ rest → i ≡ n → i < length ss
-written_room ss old table n i s left rest h w e f = let r = step_on ss old n s rest (sym e ∙ w.1) h in let k = r.0 in omega arith
-
-pub written_more : (ss old table : List ℕ) (n i k s : ℕ) (left rest : List ℕ) → length ss ≤ length old → Written ss old table n left → left ≡ s ∷ rest → i ≡ n → k ≡ n + 1 → Written ss old (set table i s) k rest
-written_more ss old table n i k s left rest h w e f g =
-    let r = step_on ss old n s rest (sym e ∙ w.1) h in (
-      ap (λ xs. set xs i s) w.0 ∙ ap (λ j. set (take n ss ++ drop n old) j s) f ∙ r.1 ∙ ap (λ j. take j ss ++ drop j old) (sym g),
-      r.2 ∙ ap (λ j. drop j ss) (sym g),
-      let l = r.0 in omega arith,
-    )
-
--- all starts
-drop_none : (xs : List ℕ) (n : ℕ) → [] ≡ drop n xs → length xs ≤ n
-drop_none [] n e = omega arith
-drop_none (x ∷ xs) zero e = absurd (let z : ◌≡◌ {A = ℕ} 0 1 = cc in omega arith)
-drop_none (x ∷ xs) (suc n) e = let h = drop_none xs n e in omega arith
-
-pub written_all : (ss old table : List ℕ) (n : ℕ) (left : List ℕ) → Written ss old table n left → left ≡ [] → table ≡ ss ++ drop (length ss) old
-written_all ss old table n left w f =
-    let h = drop_none ss n (sym f ∙ w.1) in
-    let k = w.2 in
-    let e : n ≡ length ss = omega arith in
-    w.0 ∙ ap (λ j. take j ss ++ drop j old) e ∙ ap (λ xs. xs ++ drop (length ss) old) (take_all (length ss) ss (omega arith))
-
--- a comparison pair by pair
-pub all_same : (xs ys : List ℕ) → length ys ≤ length xs → list_all (λ p. eqb p.0 p.1) (zip xs ys) ≡ same (take (length ys) xs) ys
-all_same xs [] h = go xs
-  where
-    go : (xs : List ℕ) → list_all (λ p. eqb p.0 p.1) (zip xs []) ≡ same (take 0 xs) []
-    go [] = refl
-    go (x ∷ xs) = refl
-all_same [] (y ∷ ys) h = absurd (omega arith)
-all_same (x ∷ xs) (y ∷ ys) h = elim (eqb x y) as (λ v. (v && list_all (λ p. eqb p.0 p.1) (zip xs ys)) ≡ cond v (same (take (length ys) xs) ys) false) [ true ↦ all_same xs ys (omega arith) | false ↦ refl ]
-
--- the test of two lists
-pub same_refl : (xs : List ℕ) → same xs xs ≡ true
-same_refl [] = refl
-same_refl (x ∷ xs) = ap (λ v. cond v (same xs xs) false) (eq-eqb x x refl) ∙ same_refl xs
-
-same_step : (x y : ℕ) (xs ys : List ℕ) (v : Bool) → eqb x y ≡ v → (same xs ys ≡ true → xs ≡ ys) → cond v (same xs ys) false ≡ true → x ∷ xs ≡ y ∷ ys
-same_step x y xs ys true e f h = let a = eqb-true x y e in let b = f h in cc
-same_step x y xs ys false e f h = cc
-
-pub same_sound : (xs ys : List ℕ) → same xs ys ≡ true → xs ≡ ys
-same_sound [] [] h = refl
-same_sound [] (y ∷ ys) h = cc
-same_sound (x ∷ xs) [] h = cc
-same_sound (x ∷ xs) (y ∷ ys) h = same_step x y xs ys (eqb x y) refl (same_sound xs ys) h
-
-same_ways : (xs ys : List ℕ) (v : Bool) → same xs ys ≡ v → (xs ≡ ys → ⊥) → same xs ys ≡ false
-same_ways xs ys true e h = absurd (h (same_sound xs ys e))
-same_ways xs ys false e h = e
-
-pub same_false : (xs ys : List ℕ) → (xs ≡ ys → ⊥) → same xs ys ≡ false
-same_false xs ys h = same_ways xs ys (same xs ys) refl h

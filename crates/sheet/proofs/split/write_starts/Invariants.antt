@@ -1,9 +1,10 @@
+use Rattle.std.proofs.Common.{◌≡◌, ◌≤◌, ◌++◌, length, take, drop}
 use Rattle.sheet.specs.Starts.{starts_of}
-use Rattle.sheet.proofs.StartLaws.{starts_left, Written}
+use Rattle.sheet.proofs.StartLaws.{starts_from}
 use Rattle.sheet.proofs.split.write_starts.Given as goal
 
-abbrev pub invariant-loop-line : goal.invariant-loop-line
-invariant-loop-line l =
-    (goal.iterator-loop-line).can_next l.line-iterator ×
-    (goal.iterator-loop-line).is_finite l.line-iterator ×
-    Written (starts_of l.text) l.initial.starts l.starts l.line-iterator.count (starts_left l.line-iterator.iter)
+abbrev pub invariant-loop-i : goal.invariant-loop-i
+invariant-loop-i l =
+    (l.count ≤ length l.starts) ×
+    (take l.count l.starts ++ starts_from l.i l.fresh (drop l.i l.text) ≡ starts_of l.text) ×
+    (drop l.count l.starts ≡ drop l.count l.initial.starts)
