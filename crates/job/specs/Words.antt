@@ -1,5 +1,5 @@
 -- Words at the front of a line, the names of sides and kinds, and how one thing is read after another.
-use Rattle.std.specs.Prelude.{ℕ, cond, List, [], ◌∷◌, Some, None, codes, length, nat_le, Option, ◌==◌}
+use Rattle.std.specs.Prelude.{ℕ, cond, List, [], ◌∷◌, Some, None, codes, Option, ◌==◌}
 use Rattle.std.specs.Borrow.{Bor}
 use Rattle.std.specs.List.{find}
 use Rattle.std.specs.Str.{bytes_eq}
@@ -79,15 +79,6 @@ longer_by b (Some (word, rest)) = Some (b ∷ word, rest)
 abbrev pub front_word : List ℕ → Option (List ℕ × List ℕ)
 front_word [] = None
 front_word (b ∷ bs) = cond (b == 32) (Some ([], bs)) (longer_by b (front_word bs))
-
--- The same where the word has no more than eight bytes, as many as the longest name.
-abbrev pub short_word : Option (List ℕ × List ℕ) → Option (List ℕ × List ℕ)
-short_word None = None
-short_word (Some (word, rest)) = cond (nat_le (length word) 8) (Some (word, rest)) None
-
--- The same with both as slices.
-abbrev pub both_told : Bor (List ℕ) × Bor (List ℕ) → List ℕ × List ℕ
-both_told p = (p.0.now, p.1.now)
 
 -- What the first word of a line names, and what follows the space behind it.
 abbrev pub front_named : {X : Type 0} → (X → List ℕ) → List X → List ℕ → Option (X × List ℕ)

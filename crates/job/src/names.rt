@@ -23,16 +23,6 @@ pub trait Named: Copy + 'static {
     ghost back: { (x : Self) → named name all (name x) ≡ Some x };
 }
 
-/// Things whose names are no longer than `LONGEST_NAME`.
-pub(crate) trait ShortNamed: Named {
-    ghost use Rattle.std.specs.Prelude.{◌≤◌, length};
-
-    ghost short: { (x : Self) → length (Self.name x) ≤ 8 };
-}
-
-/// The length of the longest name. A line is not gone through for a word that is longer.
-pub(crate) const LONGEST_NAME: usize = 8;
-
 /// What a whole word names.
 pub fn from_name<N: Named>(word: &[u8]) -> Option<N>
     ensures { result ≡ named N.name N.all word.now }
@@ -65,12 +55,6 @@ impl Named for Side {
     ghost back = { Prim.search rules };
 }
 
-impl ShortNamed for Side {
-    ghost use Rattle.std.proofs.Common.{rules};
-
-    ghost short = { Prim.search rules };
-}
-
 impl Named for SheetKind {
     ghost use Rattle.std.proofs.Common.{rules};
 
@@ -90,12 +74,6 @@ impl Named for SheetKind {
     }
 
     ghost back = { Prim.search rules };
-}
-
-impl ShortNamed for SheetKind {
-    ghost use Rattle.std.proofs.Common.{rules};
-
-    ghost short = { Prim.search rules };
 }
 
 impl Named for Verb {
@@ -132,10 +110,4 @@ impl Named for Verb {
     }
 
     ghost back = { Prim.search rules };
-}
-
-impl ShortNamed for Verb {
-    ghost use Rattle.std.proofs.Common.{rules};
-
-    ghost short = { Prim.search rules };
 }

@@ -6,7 +6,7 @@ use crate::command::{Command, Verb};
 use crate::names::from_name;
 use crate::read::sheets::{read_lines, read_row, read_sheet};
 use crate::read::table::{read_enter, read_open, read_withdraw};
-use crate::read::words::front_named;
+use crate::read::words::FrontNamed;
 
 mod numbers;
 mod sheets;
@@ -47,7 +47,7 @@ fn read_word(line: &[u8]) -> Option<Command<'_>>
 fn read_worded(line: &[u8]) -> Option<Command<'_>>
     ensures { option_map order result ≡ read_worded line.now }
 {
-    let (verb, rest) = front_named(line)?;
+    let (verb, rest) = Verb::at_front(line)?;
     match verb {
         Verb::Lines => read_lines(rest),
         Verb::Sheet => read_sheet(rest),

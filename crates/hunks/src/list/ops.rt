@@ -94,9 +94,10 @@ impl<const N: usize> HunkList<N> {
         if hunks.len() > N - self.len() {
             return Err(Full);
         }
-        for hunk in hunks {
-            let _ = self.push(*hunk);
-        }
+        let end = self.len + hunks.len();
+        let places = &mut self.items[..];
+        places[self.len..end].copy_from_slice(hunks);
+        self.len = end;
         Ok(())
     }
 

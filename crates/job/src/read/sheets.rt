@@ -6,7 +6,7 @@ ghost use Rattle.job.specs.Orders.{order, read_kind, read_lines, read_row, read_
 use crate::command::{Command, SheetKind};
 use crate::names::from_name;
 use crate::read::numbers::last_number;
-use crate::read::words::front_named;
+use crate::read::words::FrontNamed;
 use rules::hunk::Side;
 
 pub(super) fn read_lines(line: &[u8]) -> Option<Command<'_>>
@@ -19,21 +19,21 @@ pub(super) fn read_lines(line: &[u8]) -> Option<Command<'_>>
 pub(super) fn read_row(line: &[u8]) -> Option<Command<'_>>
     ensures { option_map order result ≡ read_row line.now }
 {
-    let (side, rest) = front_named(line)?;
+    let (side, rest) = Side::at_front(line)?;
     last_number(rest).map(|row| Command::Row { side, row })
 }
 
 pub(super) fn read_sheet(line: &[u8]) -> Option<Command<'_>>
     ensures { option_map order result ≡ read_sheet line.now }
 {
-    let (side, rest) = front_named(line)?;
+    let (side, rest) = Side::at_front(line)?;
     read_kind(side, rest)
 }
 
 fn read_kind(side: Side, line: &[u8]) -> Option<Command<'_>>
     ensures { option_map order result ≡ read_kind side line.now }
 {
-    let (kind, path) = front_named(line)?;
+    let (kind, path) = SheetKind::at_front(line)?;
     read_path(side, kind, path)
 }
 

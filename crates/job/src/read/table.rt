@@ -6,7 +6,7 @@ ghost use Rattle.job.specs.Orders.{hunk_order, order, read_enter, read_open, rea
 use crate::command::{Command, LineCounts};
 use crate::names::from_name;
 use crate::read::numbers::{last_number, number_then};
-use crate::read::words::front_named;
+use crate::read::words::FrontNamed;
 use rules::hunk::{Hunk, Side, Span};
 
 /// Three numbers with a space between them.
@@ -26,7 +26,7 @@ pub(super) fn read_open(line: &[u8]) -> Option<Command<'_>>
 pub(super) fn read_enter(line: &[u8]) -> Option<Command<'_>>
     ensures { option_map order result ≡ read_enter line.now }
 {
-    let (side, rest) = front_named(line)?;
+    let (side, rest) = Side::at_front(line)?;
     read_hunk(side, rest)
 }
 

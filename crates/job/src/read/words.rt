@@ -1,31 +1,66 @@
 //! Words at the front of a line.
-ghost use Rattle.std.specs.Prelude.{◌≡◌, ◌==◌, position, take};
+ghost use Rattle.std.specs.Prelude.{◌≡◌};
 ghost use Rattle.std.specs.Option.{option_map};
-ghost use Rattle.job.specs.Words.{both_told, front_named, front_word, short_word, told};
+ghost use Rattle.job.specs.Words.{front_named, told};
 
-use crate::names::{LONGEST_NAME, ShortNamed, from_name};
+use crate::command::{SheetKind, Verb};
+use crate::names::Named;
+use rules::hunk::Side;
 
-/// What the first word of a line names, and what follows the space behind it.
-pub(super) fn front_named<N: ShortNamed>(line: &[u8]) -> Option<(N, &[u8])>
-    ensures { option_map told result ≡ front_named N.name N.all line.now }
-{
-    let (word, rest) = front_word(line)?;
-    from_name(word).map(|named| (named, rest))
+/// Things whose names are looked for at the front of a line.
+// Stays: (d) each name stands here a second time, held to the table by the clause: a search for the space and then through the table takes twice the time.
+pub(super) trait FrontNamed: Named {
+    /// What the first word of a line names, and what follows the space behind it.
+    fn at_front(line: &[u8]) -> Option<(Self, &[u8])>
+        ensures { option_map told result ≡ front_named Self.name Self.all line.now };
 }
 
-/// The first word of a line, as far as its first space, and what follows the space, if the word is no longer than a name.
-// Stays: (c) by `map` over the place, `search` does not prove `returns`: the slices are then known only through the closure's own clause.
-#[tactic(auto, using(crate::proofs::Words::cut_short))]
-fn front_word(line: &[u8]) -> Option<(&[u8], &[u8])>
-    ensures { option_map both_told result ≡ short_word (front_word line.now) }
-{
-    let at = space_at(line)?;
-    Some((&line[..at], &line[at + 1..]))
+impl FrontNamed for Verb {
+    fn at_front(line: &[u8]) -> Option<(Verb, &[u8])> {
+        if let Some(rest) = line.strip_prefix(b"lines ") {
+            Some((Verb::Lines, rest))
+        } else if let Some(rest) = line.strip_prefix(b"sheet ") {
+            Some((Verb::Sheet, rest))
+        } else if let Some(rest) = line.strip_prefix(b"row ") {
+            Some((Verb::Row, rest))
+        } else if let Some(rest) = line.strip_prefix(b"open ") {
+            Some((Verb::Open, rest))
+        } else if let Some(rest) = line.strip_prefix(b"enter ") {
+            Some((Verb::Enter, rest))
+        } else if let Some(rest) = line.strip_prefix(b"withdraw ") {
+            Some((Verb::Withdraw, rest))
+        } else if let Some(rest) = line.strip_prefix(b"held ") {
+            Some((Verb::Held, rest))
+        } else if let Some(rest) = line.strip_prefix(b"help ") {
+            Some((Verb::Help, rest))
+        } else {
+            None
+        }
+    }
 }
 
-/// Where the first space of a line is, if a name may stand ahead of it: the line may be one long word.
-fn space_at(line: &[u8]) -> Option<usize>
-    ensures { result ≡ position (λ b. b == 32) (take 9 line.now) }
-{
-    line.iter().take(LONGEST_NAME + 1).position(|b| *b == b' ')
+impl FrontNamed for Side {
+    fn at_front(line: &[u8]) -> Option<(Side, &[u8])> {
+        if let Some(rest) = line.strip_prefix(b"ancestor ") {
+            Some((Side::Ancestor, rest))
+        } else if let Some(rest) = line.strip_prefix(b"current ") {
+            Some((Side::Current, rest))
+        } else if let Some(rest) = line.strip_prefix(b"other ") {
+            Some((Side::Other, rest))
+        } else {
+            None
+        }
+    }
+}
+
+impl FrontNamed for SheetKind {
+    fn at_front(line: &[u8]) -> Option<(SheetKind, &[u8])> {
+        if let Some(rest) = line.strip_prefix(b"text ") {
+            Some((SheetKind::Text, rest))
+        } else if let Some(rest) = line.strip_prefix(b"cells ") {
+            Some((SheetKind::Cells, rest))
+        } else {
+            None
+        }
+    }
 }
